@@ -1,0 +1,5 @@
+pub mod Layouts
+pub mod Bytes
+pub mod Lists
+pub mod Heads
+pub mod Packs

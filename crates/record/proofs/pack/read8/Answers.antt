@@ -1,0 +1,6 @@
+use native.Mathlib.Omega.{arith}
+use Rattle.record.proofs.Bytes.{be-read}
+use Rattle.record.proofs.pack.read8.Needs as need
+
+pub returns : need.returns
+returns c = be-read 8 (c .args .i) _ (c .args .b .now) (c .fits-b) (omega arith) (omega (arith, c .from-be-bytes .ensures))

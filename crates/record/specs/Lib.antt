@@ -1,0 +1,6 @@
+pub mod Bytes
+pub mod Layout
+pub mod Heads
+pub mod Packed
+pub mod Tapes
+pub mod Reads

@@ -1,0 +1,20 @@
+//! Statements as records, and records as 20 bytes.
+ghost use mathlib.Core.Path.{_≡_};
+
+mod kind;
+mod layout;
+mod pack;
+mod tape;
+
+/// A record: the fields of a statement as plain numbers, which may break the layout.
+#[derive(Clone, Copy, PartialEq, Eq, Debug)]
+pub struct Record {
+    pub kind: u8,
+    pub signer: u8,
+    pub view: u8,
+    pub last: u8,
+    pub slot: u8,
+    pub verdict: u8,
+    pub word: u64,
+    pub result: u64,
+}
