@@ -1,9 +1,10 @@
 //! Why a call is refused: a ground, which has a number, and a place.
 ghost use mathlib.Core.Path.{_≡_};
+ghost use Rattle.std.specs.Orderings.{Decides};
 ghost use Rattle.refusal.specs.Grounds.{«ground-number»};
 
 /// A ground for refusing a call. A call tries its grounds in the order of their numbers.
-#[derive(Clone, Copy, PartialEq, Eq, Debug)]
+#[derive(Clone, Copy, Debug)]
 pub enum Ground {
     /// A tape to be read is empty or no whole number of records, or a witness buffer is too short.
     BufferLength = 1,
@@ -51,6 +52,16 @@ impl Ground {
         self as u8
     }
 }
+
+pub impl PartialEq<Ground> for Ground as GroundPartialEq {
+    ghost equals = { λ a b r. Decides r (a ≡ b) };
+
+    fn eq(&self, other: &Ground) -> bool {
+        self.number() == other.number()
+    }
+}
+
+pub impl Eq for Ground as GroundEq {}
 
 /// A refusal: its ground, and the place of what it is about, in a tape or a list; 0 where the
 /// ground has no place.

@@ -1,0 +1,2 @@
+pub mod Decoded
+pub mod Balances

@@ -1,0 +1,35 @@
+-- What the rating service means. Its state is the list of its curves, the one loaded last first.
+--   loading cs o    — the curves after the operation o
+--   answering cs o  — the answer to the operation o
+--   rating-next     — the curves after 64 bits
+--   rating-answer   — the answer to 64 bits
+use mathlib.Core.List.{List}
+use Prim.Native.Nat.{ℕ}
+use Rattle.std.specs.declared.option.Option.{Option}
+use Rattle.std.specs.declared.option.Option.the-variants.{Some, None}
+use Rattle.service.specs.Operations.{out-of-range, malformed}
+use Rattle.rating.specs.Curves.{flow, deciding, loaded}
+use Rattle.rating.specs.Decoded.{decoded}
+use Rattle.rating.specs.declared.curve.Curve.{Curve}
+use Rattle.rating.specs.declared.operation.Operation.{Operation}
+use Rattle.rating.specs.declared.operation.Operation.the-variants.{Load, Read}
+
+abbrev pub loading : List Curve → Option Operation → List Curve
+loading cs (Some (Load c)) = loaded c cs
+loading cs (Some (Read s)) = cs
+loading cs None = cs
+
+abbrev pub flow-by : ℕ → Option Curve → ℕ
+flow-by s (Some c) = flow c s
+flow-by s None = out-of-range
+
+abbrev pub answering : List Curve → Option Operation → ℕ
+answering cs (Some (Load c)) = 0
+answering cs (Some (Read s)) = flow-by s (deciding s cs)
+answering cs None = malformed
+
+abbrev pub rating-next : List Curve → ℕ → List Curve
+rating-next cs op = loading cs (decoded op)
+
+abbrev pub rating-answer : List Curve → ℕ → ℕ
+rating-answer cs op = answering cs (decoded op)
