@@ -1,10 +1,12 @@
 //! Statements as records, and records as 20 bytes.
-ghost use mathlib.Core.Path.{_≡_};
-
-mod kind;
+pub mod kind;
 mod layout;
 mod pack;
 mod tape;
+
+pub use tape::Part;
+pub use tape::Reader;
+pub use tape::ReaderIterator;
 
 /// A record: the fields of a statement as plain numbers, which may break the layout.
 #[derive(Clone, Copy, PartialEq, Eq, Debug)]

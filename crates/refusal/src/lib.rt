@@ -1,7 +1,10 @@
 //! Why a call is refused: a ground, which has a number, and a place.
 ghost use mathlib.Core.Path.{_≡_};
 ghost use Rattle.std.specs.Orderings.{Decides};
-ghost use Rattle.refusal.specs.Grounds.{«ground-number»};
+ghost use Rattle.std.specs.declared.option.Option.the-variants.{Some};
+ghost use Rattle.refusal.specs.Grounds.{«ground-number», text};
+use std::error::Error;
+use std::fmt;
 
 /// A ground for refusing a call. A call tries its grounds in the order of their numbers.
 #[derive(Clone, Copy, Debug)]
@@ -70,3 +73,15 @@ pub struct Refusal {
     pub ground: Ground,
     pub place: u64,
 }
+
+pub impl fmt::Display for Refusal as RefusalDisplay {
+    ghost shown = { λ r. Some (text r) };
+
+    fn fmt<W: fmt::Write>(&self, f: &mut fmt::Formatter<W>) -> fmt::Result {
+        let number = self.ground.number();
+        let place = self.place;
+        write!(f, "refused on ground {number} at place {place}")
+    }
+}
+
+pub impl Error for Refusal as RefusalError {}
