@@ -2,7 +2,10 @@
 --   no-balances       — sixteen balances of 0
 --   granted b m       — the balance b after a GRANT of m, if it stays in its range
 --   drawn b m         — the balance b after a DRAW of m, if it stays in its range
---   balance bs o      — the balance that the operation o makes, if it stays in its range
+--   put bs a o        — the balances bs with o, if there is one, as the balance of the account a
+--   told o            — the answer where o is the new balance, if there is one
+--   applied bs o      — the balances after the operation o
+--   answering bs o    — the answer to the operation o
 --   allotment-next    — the balances after 64 bits
 --   allotment-answer  — the answer to 64 bits
 use mathlib.Core.Bool.{cond}

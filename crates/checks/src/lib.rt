@@ -13,12 +13,19 @@ use service::Service;
 use service::feed;
 
 const LOAD_LOW: u64 = (1 << 62) + (2000 << 31) + 3;
+
 const LOAD_HIGH: u64 = (1 << 62) + (1 << 59) + (2000 << 45) + (5000 << 31) + (6200 << 11) + 5;
+
 const READ_2000: u64 = (2 << 62) + (2000 << 48);
+
 const READ_2001: u64 = (2 << 62) + (2001 << 48);
+
 const READ_5001: u64 = (2 << 62) + (5001 << 48);
+
 const GRANT_100: u64 = (1 << 62) + (100 << 26);
+
 const DRAW_100: u64 = (2 << 62) + (100 << 26);
+
 const DRAW_1: u64 = (2 << 62) + (1 << 26);
 
 // The flows at 2000, 2001 and 5001 millimetres after two loads.
@@ -47,5 +54,9 @@ pub fn worked_checks() -> [[u64; 3]; 3]
         allotment.apply(DRAW_100),
         allotment.apply(DRAW_1),
     ];
-    [flows(LOAD_LOW, LOAD_HIGH), flows(LOAD_HIGH, LOAD_LOW), answers]
+    [
+        flows(LOAD_LOW, LOAD_HIGH),
+        flows(LOAD_HIGH, LOAD_LOW),
+        answers,
+    ]
 }

@@ -24,7 +24,13 @@ const HIGH: Curve = Curve {
 };
 
 fn describe(rt: &LibcRuntime, curve: &Curve) -> Result<(), AnyError> {
-    let Curve { number, low, high, offset, slope } = *curve;
+    let Curve {
+        number,
+        low,
+        high,
+        offset,
+        slope,
+    } = *curve;
     println!(
         rt,
         "  curve {number}: {low} to {high} mm, {offset} l/s at its low end, {slope} l/s more for each mm"
@@ -54,7 +60,10 @@ fn read(rt: &LibcRuntime, rating: &mut Rating, stage: u16) -> Result<u64, AnyErr
 fn read_after(rt: &LibcRuntime, first: Curve, second: Curve) -> Result<u64, AnyError> {
     let (a, b) = (first.number, second.number);
     println!(rt, "Curve {a} loaded, then curve {b}")?;
-    let loads = [encode(Operation::Load(first))?, encode(Operation::Load(second))?];
+    let loads = [
+        encode(Operation::Load(first))?,
+        encode(Operation::Load(second))?,
+    ];
     let mut rating = Rating::new();
     service::feed(&mut rating, &loads);
     read(rt, &mut rating, 1999)?;

@@ -21,7 +21,15 @@ fn print_part(rt: &LibcRuntime, part: Part) -> Result<(), AnyError> {
     let position = part.position;
     match part.record() {
         Ok(record) => {
-            let Record { kind, signer, view, slot, word, result, .. } = record;
+            let Record {
+                kind,
+                signer,
+                view,
+                slot,
+                word,
+                result,
+                ..
+            } = record;
             println!(
                 rt,
                 "  position {position}: kind {kind}, replica {signer}, view {view}, slot {slot}, word {word}, result {result}"
@@ -46,7 +54,10 @@ fn tape_of(bytes: &[u8; 20]) -> [u8; 40] {
 /// Packs the statement that a replica answered `result`, and reads it back from a tape, on which
 /// the same bytes follow with a filling bit set.
 pub fn pack_and_read(rt: &LibcRuntime, result: u64) -> Result<(), AnyError> {
-    println!(rt, "Statement: replica 2 answers {result} for slot 1 of view 0")?;
+    println!(
+        rt,
+        "Statement: replica 2 answers {result} for slot 1 of view 0"
+    )?;
     let statement = Record {
         kind: kind::REPLY,
         signer: 2,
@@ -59,7 +70,10 @@ pub fn pack_and_read(rt: &LibcRuntime, result: u64) -> Result<(), AnyError> {
     };
     let bytes = statement.pack()?;
     print_bytes(rt, &bytes)?;
-    println!(rt, "Tape: these bytes, then the same with a filling bit set in the fourth")?;
+    println!(
+        rt,
+        "Tape: these bytes, then the same with a filling bit set in the fourth"
+    )?;
     let tape = tape_of(&bytes);
     for part in Reader::new(&tape)? {
         print_part(rt, part)?;

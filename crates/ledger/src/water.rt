@@ -17,8 +17,14 @@ fn encode(operation: Operation) -> Result<u64, AnyError> {
 pub fn draw_until_refused(rt: &LibcRuntime) -> Result<(), AnyError> {
     println!(rt, "Allotment: account 3")?;
     let mut allotment = Allotment::new();
-    let grant = encode(Operation::Grant { account: 3, amount: 100 })?;
-    let draw = encode(Operation::Draw { account: 3, amount: 30 })?;
+    let grant = encode(Operation::Grant {
+        account: 3,
+        amount: 100,
+    })?;
+    let draw = encode(Operation::Draw {
+        account: 3,
+        amount: 30,
+    })?;
     let mut balance = allotment.apply(grant);
     println!(rt, "  grant 100: the balance is {balance}")?;
     for _ in 0..10 {

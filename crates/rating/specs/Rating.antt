@@ -1,4 +1,5 @@
 -- What the rating service means. Its state is the list of its curves, the one loaded last first.
+--   flow-by s c     — the answer to a READ at the stage s, where c is the curve that decides, if any
 --   loading cs o    — the curves after the operation o
 --   answering cs o  — the answer to the operation o
 --   rating-next     — the curves after 64 bits

@@ -29,7 +29,9 @@ impl Operation {
                 offset: ((bits >> 11) % 0x10_0000) as u32,
                 slope: (bits % 0x800) as u16,
             })),
-            2 if bits % 0x1_0000_0000_0000 == 0 => Some(Operation::Read(((bits >> 48) % 0x4000) as u16)),
+            2 if bits % 0x1_0000_0000_0000 == 0 => Some(Operation::Read(
+                ((bits >> 48) % 0x4000) as u16,
+            )),
             _ => None,
         }
     }
@@ -41,7 +43,12 @@ impl Operation {
     {
         match self {
             Operation::Load(c) => {
-                if c.number > 7 || c.low > c.high || c.high > 0x3fff || c.offset > 0xf_ffff || c.slope > 0x7ff {
+                if c.number > 7
+                    || c.low > c.high
+                    || c.high > 0x3fff
+                    || c.offset > 0xf_ffff
+                    || c.slope > 0x7ff
+                {
                     return None;
                 }
                 Some(

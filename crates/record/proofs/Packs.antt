@@ -20,7 +20,7 @@ fits : (r : Record) → Layout r → Fits r
 fits r l = grind arith
 
 word-below : (r : Record) → Layout r → r .word < 2 ^ 64
-word-below r l = let p = pow-mono (l .length) in omega (arith, l .word)
+word-below r l = let p = pow-mono (l .slot-field) in omega (arith, l .word)
 
 -- the bytes of a record are those of its head, its word and its result
 packed-parts : (r : Record) → r .word < 2 ^ 64 → r .result < 2 ^ 64 → packed r ≡ be 4 (head-of r) ++ (be 8 (r .word) ++ be 8 (r .result))

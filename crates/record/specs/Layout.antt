@@ -20,9 +20,9 @@ pub record Layout (r : Record) : Type 0 where
   -- a VIEW-CHANGE has a last view below its view, no other kind has one
   pub last : r .kind ≡ 7 → r .last < r .view
   pub no-last : (r .kind ≡ 7 → ⊥) → r .last ≡ 0
-  -- a slot is 0 to 63, a length or a reach 0 to 64
+  -- the slot field is a slot, 0 to 63, or in a change of view a length or a reach, 0 to 64
   pub slot : r .kind ≤ 6 → r .slot ≤ 63
-  pub length : r .slot ≤ 64
+  pub slot-field : r .slot ≤ 64
   -- DECISION, PREPARE and COMMIT have a verdict, no other kind has one
   pub verdict : r .verdict ≤ 1
   pub no-verdict-below : r .kind < 4 → r .verdict ≡ 0

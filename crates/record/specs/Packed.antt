@@ -1,8 +1,9 @@
 -- The 20 bytes of a record.
---   fields r     — the fields of r from the most significant bit down
---   packed r     — the 20 bytes of r
---   Packs r b    — r keeps the layout, and b are its bytes
---   packing r    — what packing r answers
+--   of-width w v   — the field of w bits that holds v
+--   fields r       — the fields of r from the most significant bit down
+--   packed r       — the 20 bytes of r
+--   Packs r b      — r keeps the layout, and b are its bytes
+--   packing r      — what packing r answers
 --   Unpacks p b a  — a is what unpacking b, which stands at the place p, answers: the record that packs to b, or a refusal if there is none
 use mathlib.Core.Path.{_≡_}
 use mathlib.Core.Bool.{true, cond}

@@ -27,13 +27,24 @@ fn ends_below(word: u64, slot: u8) -> bool
 fn passes(r: &Record) -> bool
     ensures { λ v. ⌜ v ≡ passes (now (r .entry)) ⌝ }
 {
-    let Record { kind, signer, view, last, slot, verdict, word, result } = *r;
+    let Record {
+        kind,
+        signer,
+        view,
+        last,
+        slot,
+        verdict,
+        word,
+        result,
+    } = *r;
     signer < 16
         && view < 64
         && match kind {
             REPLY if slot <= 63 && ends_below(word, slot) => last == 0 && verdict == 0,
             FIND..=DROP if slot <= 63 && word == 0 => last == 0 && verdict == 0 && result == 0,
-            DECISION..=COMMIT if slot <= 63 && word == 0 => last == 0 && verdict <= 1 && result == 0,
+            DECISION..=COMMIT if slot <= 63 && word == 0 => last == 0
+                && verdict <= 1
+                && result == 0,
             VIEW_CHANGE if slot <= 64 && last < view && ends_below(word, slot) => {
                 verdict == 0 && result == 0
             }

@@ -8,6 +8,9 @@ pub use tape::Part;
 pub use tape::Reader;
 pub use tape::ReaderIterator;
 
+/// The number of bytes that a record is packed into.
+pub const SIZE: usize = 20;
+
 /// A record: the fields of a statement as plain numbers, which may break the layout.
 #[derive(Clone, Copy, PartialEq, Eq, Debug)]
 pub struct Record {

@@ -8,15 +8,13 @@ ghost use Rattle.record.specs.Layout.{Layout};
 ghost use Rattle.record.specs.Packed.{packed, packing, Packs, Unpacks};
 ghost use Rattle.record.specs.Heads.{«head-of», «with-head»};
 use crate::Record;
+use crate::SIZE;
 use refusal::Ground;
 use refusal::Refusal;
 
-/// The number of bytes of a record.
-pub const SIZE: usize = 20;
-
 impl Record {
     /// The record's 20 bytes. A record that breaks the layout is refused.
-    pub fn pack(&self) -> Result<[u8; 20], Refusal>
+    pub fn pack(&self) -> Result<[u8; SIZE], Refusal>
         ensures value { λ a. ⌜ a ≡ packing (now (self .entry)) ⌝ }
         ensures alone { λ a. ⌜ made a (λ b. (r : Record) → Packs r b → r ≡ now (self .entry)) ⌝ }
     {
@@ -30,7 +28,7 @@ impl Record {
     }
 
     /// The record that packs to these bytes. Bytes to which none packs are refused.
-    pub fn unpack(bytes: &[u8; 20]) -> Result<Record, Refusal>
+    pub fn unpack(bytes: &[u8; SIZE]) -> Result<Record, Refusal>
         ensures { λ a. ⌜ Unpacks 0 (now (bytes .entry)) a ⌝ }
     {
         let head = read4(bytes, 0);
@@ -60,7 +58,7 @@ fn head(r: &Record) -> u32
 }
 
 // The bytes of a record that keeps the layout.
-fn bytes_of(r: &Record) -> [u8; 20]
+fn bytes_of(r: &Record) -> [u8; SIZE]
     requires { ⌜ Layout (now r) ⌝ }
     ensures { λ b. ⌜ b ≡ packed (now (r .entry)) ⌝ }
 {
@@ -68,7 +66,26 @@ fn bytes_of(r: &Record) -> [u8; 20]
     let w = r.word.to_be_bytes();
     let a = r.result.to_be_bytes();
     [
-        h[0], h[1], h[2], h[3], w[0], w[1], w[2], w[3], w[4], w[5], w[6], w[7], a[0], a[1], a[2], a[3], a[4], a[5], a[6], a[7],
+        h[0],
+        h[1],
+        h[2],
+        h[3],
+        w[0],
+        w[1],
+        w[2],
+        w[3],
+        w[4],
+        w[5],
+        w[6],
+        w[7],
+        a[0],
+        a[1],
+        a[2],
+        a[3],
+        a[4],
+        a[5],
+        a[6],
+        a[7],
     ]
 }
 
@@ -89,7 +106,7 @@ fn with_head(head: u32, word: u64, result: u64) -> Record
 }
 
 // The number that the four bytes from `i` on write.
-fn read4(b: &[u8; 20], i: usize) -> u32
+fn read4(b: &[u8; SIZE], i: usize) -> u32
     requires { ⌜ i + 4 ≤ 20 ⌝ }
     ensures { λ n. ⌜ be 4 n ≡ take 4 (drop i (now (b .entry))) ⌝ }
 {
@@ -97,7 +114,7 @@ fn read4(b: &[u8; 20], i: usize) -> u32
 }
 
 // The number that the eight bytes from `i` on write.
-fn read8(b: &[u8; 20], i: usize) -> u64
+fn read8(b: &[u8; SIZE], i: usize) -> u64
     requires { ⌜ i + 8 ≤ 20 ⌝ }
     ensures { λ n. ⌜ be 8 n ≡ take 8 (drop i (now (b .entry))) ⌝ }
 {

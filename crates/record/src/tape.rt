@@ -10,6 +10,7 @@ ghost use Rattle.record.specs.Packed.{Unpacks};
 ghost use Rattle.record.specs.Tapes.{whole};
 ghost use Rattle.record.specs.Reads.{Reads};
 use crate::Record;
+use crate::SIZE;
 use refusal::Ground;
 use refusal::Refusal;
 
@@ -17,7 +18,7 @@ use refusal::Refusal;
 #[derive(Clone, Copy)]
 pub struct Part<'a> {
     pub position: u64,
-    pub bytes: &'a [u8; 20],
+    pub bytes: &'a [u8; SIZE],
 }
 
 impl Part<'_> {
@@ -47,7 +48,7 @@ impl<'a> Reader<'a> {
     pub fn new(tape: &'a [u8]) -> Result<Reader<'a>, Refusal>
         ensures { λ a. ⌜ elim a [ Ok s ↦ (whole (now (tape .entry)) ≡ true) × (now (s .tape) ≡ now (tape .entry)) × (s .position ≡ 0) | Err e ↦ (whole (now (tape .entry)) ≡ false) × (e ≡ refused BufferLength 0) ] ⌝ }
     {
-        if tape.is_empty() || tape.len() % 20 != 0 {
+        if tape.is_empty() || tape.len() % SIZE != 0 {
             return Err(Refusal {
                 ground: Ground::BufferLength,
                 place: 0,
@@ -68,10 +69,10 @@ pub impl<'a> Iterator for Reader<'a> as ReaderIterator {
 
     fn next(&mut self) -> Option<Part<'a>> {
         let position = self.position;
-        if position >= self.tape.len() / 20 {
+        if position >= self.tape.len() / SIZE {
             return None;
         }
-        let bytes = self.tape[20 * position..].first_chunk::<20>()?;
+        let bytes = self.tape[SIZE * position..].first_chunk::<SIZE>()?;
         self.position = position + 1;
         Some(Part {
             position: position as u64,

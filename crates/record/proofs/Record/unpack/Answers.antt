@@ -32,9 +32,9 @@ returns-else-head-eq0 c =
     let s = read (need.at·returns-else-head-eq0 c .After-with-head-record) in (
       refl,
       λ r p. elim (c .else-head-eq0 .came) [
-        else-head-eq0·by·then-head-eq0·else-keeps-layout w ↦
+        | else-head-eq0·by·then-head-eq0·else-keeps-layout w ↦
             let same = c .with-head-record .ensures ∙ split-record _ _ _ _ s r p in
             both-ways _ (sym (w .if-keeps-layout .ensures tt .value)) (ap keeps-layout same ∙ p .layout)
-      | else-head-eq0·by·else-head-eq0 w ↦ w .if-head-eq0 .left (split-even _ _ _ _ s r p)
+        | else-head-eq0·by·else-head-eq0 w ↦ w .if-head-eq0 .left (split-even _ _ _ _ s r p)
       ],
     )
