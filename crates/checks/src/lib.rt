@@ -10,7 +10,6 @@ use allotment::AllotmentService;
 use rating::Rating;
 use rating::RatingService;
 use service::Service;
-use service::feed;
 
 const LOAD_LOW: u64 = (1 << 62) + (2000 << 31) + 3;
 
@@ -33,7 +32,8 @@ fn flows(first: u64, second: u64) -> [u64; 3]
     ensures { λ r. ⌜ r ≡ flow-after first second 2000 ∷ flow-after first second 2001 ∷ flow-after first second 5001 ∷ [] ⌝ }
 {
     let mut rating = Rating::new();
-    feed(&mut rating, &[first, second]);
+    let _ = rating.apply(first);
+    let _ = rating.apply(second);
     [
         rating.apply(READ_2000),
         rating.apply(READ_2001),
@@ -41,12 +41,10 @@ fn flows(first: u64, second: u64) -> [u64; 3]
     ]
 }
 
-/// Runs the worked examples of the services: the flows at 2000, 2001 and 5001 millimetres with the
-/// high curve loaded last, the same with the low curve loaded last, and the answers to a grant of
-/// 100, a draw of 100 and a draw of 1.
-pub fn worked_checks() -> [[u64; 3]; 3]
-    ensures table { λ _. ⌜ Worked-checks ⌝ }
-    ensures run { λ r. ⌜ r ≡ worked-run ⌝ }
+// The flows with the high curve loaded last, the flows with the low curve loaded last, and the
+// answers to a grant of 100, a draw of 100 and a draw of 1.
+fn run() -> [[u64; 3]; 3]
+    ensures { λ r. ⌜ r ≡ worked-run ⌝ }
 {
     let mut allotment = Allotment::new();
     let answers = [
@@ -59,4 +57,14 @@ pub fn worked_checks() -> [[u64; 3]; 3]
         flows(LOAD_HIGH, LOAD_LOW),
         answers,
     ]
+}
+
+/// The worked checks hold. Runs the examples of the services: the flows at 2000, 2001 and 5001
+/// millimetres with the high curve loaded last, the same with the low curve loaded last, and the
+/// answers to a grant of 100, a draw of 100 and a draw of 1.
+pub fn worked_checks() -> [[u64; 3]; 3]
+    ensures table { λ _. ⌜ Worked-checks ⌝ }
+    ensures run { λ r. ⌜ r ≡ worked-run ⌝ }
+{
+    run()
 }

@@ -65,7 +65,9 @@ fn read_after(rt: &LibcRuntime, first: Curve, second: Curve) -> Result<u64, AnyE
         encode(Operation::Load(second))?,
     ];
     let mut rating = Rating::new();
-    service::feed(&mut rating, &loads);
+    for load in loads {
+        let _ = rating.apply(load);
+    }
     read(rt, &mut rating, 1999)?;
     let flow = read(rt, &mut rating, 2000)?;
     read(rt, &mut rating, 2001)?;

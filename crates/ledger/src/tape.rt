@@ -17,12 +17,26 @@ fn print_bytes(rt: &LibcRuntime, bytes: &[u8; 20]) -> Result<(), AnyError> {
     Ok(())
 }
 
+fn name(kind: u8) -> &'static str {
+    match kind {
+        kind::REPLY => "REPLY",
+        kind::FIND => "FIND",
+        kind::DROP => "DROP",
+        kind::DECISION => "DECISION",
+        kind::PREPARE => "PREPARE",
+        kind::COMMIT => "COMMIT",
+        kind::VIEW_CHANGE => "VIEW-CHANGE",
+        kind::VIEW_START => "VIEW-START",
+        kind::ENTRY => "ENTRY",
+        _ => "no kind",
+    }
+}
+
 fn print_part(rt: &LibcRuntime, part: Part) -> Result<(), AnyError> {
     let position = part.position;
     match part.record() {
         Ok(record) => {
             let Record {
-                kind,
                 signer,
                 view,
                 slot,
@@ -30,12 +44,16 @@ fn print_part(rt: &LibcRuntime, part: Part) -> Result<(), AnyError> {
                 result,
                 ..
             } = record;
+            let name = name(record.kind);
             println!(
                 rt,
-                "  position {position}: kind {kind}, replica {signer}, view {view}, slot {slot}, word {word}, result {result}"
+                "  position {position}: {name} of replica {signer}, view {view}, slot {slot}, word {word}, result {result}"
             )?;
         }
-        Err(refusal) => println!(rt, "  position {position}: {refusal}")?,
+        Err(refusal) => println!(
+            rt,
+            "  position {position}: {refusal}, since no record has these bytes"
+        )?,
     }
     Ok(())
 }
@@ -72,7 +90,7 @@ pub fn pack_and_read(rt: &LibcRuntime, result: u64) -> Result<(), AnyError> {
     print_bytes(rt, &bytes)?;
     println!(
         rt,
-        "Tape: these bytes, then the same with a filling bit set in the fourth"
+        "Tape: these 20 bytes, then the same with a filling bit set in the fourth byte"
     )?;
     let tape = tape_of(&bytes);
     for part in Reader::new(&tape)? {

@@ -1,9 +1,10 @@
 -- Records and their bytes: a record that keeps the layout has bytes of its own.
-use mathlib.Core.Path.{_≡_, sym, ap, _∙_}
+use mathlib.Core.Path.{_≡_, refl, sym, ap, _∙_}
 use mathlib.Core.List.{List, _++_, append-assoc}
 use Prim.Native.Nat.{ℕ, _+_, _*_, _%_, _^_, _<_, _≤_}
 use native.Mathlib.Omega.{arith}
-use lib.ListN.{length, take, drop}
+use lib.ListN.{length, take, drop, replicate}
+use borrow.Rule.Slice.PartMut.{putMid}
 use lib.Pow.{pow-mono}
 use Rattle.std.proofs.shelf.Lists.{take-all}
 use Rattle.record.specs.Bytes.{be, joined}
@@ -14,7 +15,7 @@ use Rattle.record.specs.declared.Record.{Record}
 use Rattle.record.proofs.Bytes.{be-append, be-one, length-be}
 use Rattle.record.proofs.Heads.{Fits, head-below, head-even, head-returns, head-kept}
 use Rattle.record.proofs.Layouts.{layout-from}
-use Rattle.record.proofs.Lists.{elements, elements-cut, first-part, second-part, third-part, three-parts}
+use Rattle.record.proofs.Lists.{first-part, second-part, third-part, three-parts}
 
 fits : (r : Record) → Layout r → Fits r
 fits r l = grind arith
@@ -32,19 +33,18 @@ packed-parts r w a =
     ∙ ap (λ (l : List ℕ). l ++ be 8 (r .result)) (be-append 4 8 (head-of r) (r .word) w)
     ∙ append-assoc (be 4 (head-of r)) (be 8 (r .word)) (be 8 (r .result))
 
--- the same, byte by byte
-elements-be : (k n : ℕ) (xs : List ℕ) → xs ≡ be k n → elements k 0 0 xs ≡ be k n
-elements-be k n xs is =
-    let long : length xs ≡ k = ap length is ∙ length-be k n in
-    elements-cut k 0 xs (omega arith) ∙ take-all k xs (omega arith) ∙ is
+-- the same, as the three parts are copied into a blank row of 20
+copied : (h w a : ℕ) → putMid 12 8 (putMid 4 8 (be 4 h ++ replicate 16 0) (be 8 w)) (be 8 a) ≡ be 4 h ++ (be 8 w ++ be 8 a)
+unfolding be
+copied h w a = refl
 
-pub packed-elements : (r : Record) → Layout r → (h w a : List ℕ) → h ≡ be 4 (head-of r) → w ≡ be 8 (r .word) → a ≡ be 8 (r .result) → elements 4 0 0 h ++ (elements 8 0 0 w ++ elements 8 0 0 a) ≡ packed r
-packed-elements r l h w a eh ew ea =
-    let ph = elements-be 4 (head-of r) h eh in
-    let pw = elements-be 8 (r .word) w ew in
-    let pa = elements-be 8 (r .result) a ea in
-    let whole = packed-parts r (word-below r l) (l .result) in
-    cc
+pub packed-copied : (r : Record) → Layout r → (h w a : List ℕ) → h ≡ be 4 (head-of r) → w ≡ be 8 (r .word) → a ≡ be 8 (r .result) → putMid 12 8 (putMid 4 8 (h ++ replicate 16 0) w) a ≡ packed r
+packed-copied r l h w a eh ew ea =
+    ap (λ (x : List ℕ). putMid 12 8 (putMid 4 8 (x ++ replicate 16 0) w) a) eh
+    ∙ ap (λ (x : List ℕ). putMid 12 8 (putMid 4 8 (be 4 (head-of r) ++ replicate 16 0) x) a) ew
+    ∙ ap (λ (x : List ℕ). putMid 12 8 (putMid 4 8 (be 4 (head-of r) ++ replicate 16 0) (be 8 (r .word))) x) ea
+    ∙ copied (head-of r) (r .word) (r .result)
+    ∙ sym (packed-parts r (word-below r l) (l .result))
 
 -- the bytes b begin with the head h, and go on with the word w and the result a
 pub record Splits (b : List ℕ) (h w a : ℕ) : Type 0 where

@@ -1,6 +1,7 @@
 ghost use mathlib.Core.Path.{_≡_};
 ghost use Prim.Native.Nat.{_+_, _%_, _<_, _≤_};
 ghost use mathlib.Core.List.{_++_};
+ghost use lib.Dec.{eqb};
 ghost use lib.ListN.{length, take, drop};
 ghost use Rattle.std.specs.Vec.{made};
 ghost use Rattle.record.specs.Bytes.{be};
@@ -33,7 +34,7 @@ impl Record {
     {
         let head = read4(bytes, 0);
         let record = with_head(head, read8(bytes, 4), read8(bytes, 12));
-        if head % 16 == 0 && record.keeps_layout() {
+        if zero_filled(head) && record.keeps_layout() {
             Ok(record)
         } else {
             Err(Refusal {
@@ -62,31 +63,18 @@ fn bytes_of(r: &Record) -> [u8; SIZE]
     requires { ⌜ Layout (now r) ⌝ }
     ensures { λ b. ⌜ b ≡ packed (now (r .entry)) ⌝ }
 {
-    let h = head(r).to_be_bytes();
-    let w = r.word.to_be_bytes();
-    let a = r.result.to_be_bytes();
-    [
-        h[0],
-        h[1],
-        h[2],
-        h[3],
-        w[0],
-        w[1],
-        w[2],
-        w[3],
-        w[4],
-        w[5],
-        w[6],
-        w[7],
-        a[0],
-        a[1],
-        a[2],
-        a[3],
-        a[4],
-        a[5],
-        a[6],
-        a[7],
-    ]
+    let mut bytes = [0; SIZE];
+    bytes[0..4].copy_from_slice(&head(r).to_be_bytes());
+    bytes[4..12].copy_from_slice(&r.word.to_be_bytes());
+    bytes[12..20].copy_from_slice(&r.result.to_be_bytes());
+    bytes
+}
+
+// Whether the four filling bits are 0, the lowest of the first 32.
+fn zero_filled(head: u32) -> bool
+    ensures { λ r. ⌜ r ≡ eqb (head % 16) 0 ⌝ }
+{
+    head % 16 == 0
 }
 
 // The record with these first 32 bits, word and result.

@@ -1,13 +1,14 @@
 ghost use mathlib.Core.Path.{_≡_};
 ghost use mathlib.Core.Bool.{true, false};
-ghost use Prim.Native.Nat.{_-_, _/_};
+ghost use Prim.Native.Nat.{_-_, _/_, _<_, _≤_};
 ghost use lib.ListN.{length};
 ghost use denote.Ref.{now};
+ghost use Rattle.std.specs.Options.{Cases};
 ghost use Rattle.std.specs.declared.result.Result.the-variants.{Ok, Err};
 ghost use Rattle.refusal.specs.Grounds.{refused};
 ghost use Rattle.refusal.specs.declared.Ground.the-variants.{BufferLength};
 ghost use Rattle.record.specs.Packed.{Unpacks};
-ghost use Rattle.record.specs.Tapes.{whole};
+ghost use Rattle.record.specs.Tapes.{whole, place};
 ghost use Rattle.record.specs.Reads.{Reads};
 use crate::Record;
 use crate::SIZE;
@@ -34,6 +35,16 @@ impl Part<'_> {
             }),
         }
     }
+}
+
+// The bytes at a position of the tape, if there are any.
+fn part_at(tape: &[u8], position: usize) -> Option<&[u8; SIZE]>
+    ensures { λ r. ⌜ Cases r (length (now (tape .entry)) / 20 ≤ position) (λ b. (position < length (now (tape .entry)) / 20) × (now b ≡ place position (now (tape .entry)))) ⌝ }
+{
+    if position >= tape.len() / SIZE {
+        return None;
+    }
+    tape[SIZE * position..].first_chunk::<SIZE>()
 }
 
 /// Hands out the parts of a tape in turn.
@@ -69,10 +80,7 @@ pub impl<'a> Iterator for Reader<'a> as ReaderIterator {
 
     fn next(&mut self) -> Option<Part<'a>> {
         let position = self.position;
-        if position >= self.tape.len() / SIZE {
-            return None;
-        }
-        let bytes = self.tape[SIZE * position..].first_chunk::<SIZE>()?;
+        let bytes = part_at(self.tape, position)?;
         self.position = position + 1;
         Some(Part {
             position: position as u64,

@@ -1,5 +1,6 @@
 //! Why a call is refused: a ground, which has a number, and a place.
 ghost use mathlib.Core.Path.{_≡_};
+ghost use lib.Dec.{eqb};
 ghost use Rattle.std.specs.Orderings.{Decides};
 ghost use Rattle.std.specs.declared.option.Option.the-variants.{Some};
 ghost use Rattle.refusal.specs.Grounds.{«ground-number», text};
@@ -56,11 +57,17 @@ impl Ground {
     }
 }
 
+fn same_number(a: Ground, b: Ground) -> bool
+    ensures { λ r. ⌜ r ≡ eqb (ground-number a) (ground-number b) ⌝ }
+{
+    a.number() == b.number()
+}
+
 pub impl PartialEq<Ground> for Ground as GroundPartialEq {
     ghost equals = { λ a b r. Decides r (a ≡ b) };
 
     fn eq(&self, other: &Ground) -> bool {
-        self.number() == other.number()
+        same_number(*self, *other)
     }
 }
 

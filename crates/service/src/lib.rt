@@ -1,7 +1,6 @@
 //! What a service is: a state that operations of 64 bits change, with an answer of 64 bits to each.
 ghost use mathlib.Core.Path.{_≡_};
 ghost use Prim.Native.Nat.{ℕ};
-ghost use Rattle.service.specs.Operations.{after};
 
 /// The answer where an operation asks for what there is not: no curve holds the stage, or the
 /// balance would leave its range.
@@ -37,14 +36,4 @@ pub trait Service {
     fn clear(&mut self)
         ensures freshens { λ _. ⌜ state (now (self .exit)) ≡ fresh (state (now (self .entry))) ⌝ }
         ensures same_kind { λ _. ⌜ fresh (state (now (self .exit))) ≡ fresh (state (now (self .entry))) ⌝ };
-}
-
-/// Applies the operations in turn, and lets the answers go.
-pub fn feed<S: Service>(service: &mut S, operations: &[u64])
-    ensures moves { λ _. ⌜ state (now (service .exit)) ≡ after next (state (now (service .entry))) (now (operations .entry)) ⌝ }
-    ensures same_kind { λ _. ⌜ fresh (state (now (service .exit))) ≡ fresh (state (now (service .entry))) ⌝ }
-{
-    for operation in operations {
-        let _ = service.apply(*operation);
-    }
 }

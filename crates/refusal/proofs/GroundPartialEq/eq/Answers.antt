@@ -6,6 +6,5 @@ use Rattle.refusal.proofs.GroundPartialEq.eq.Needs as need
 
 pub returns : need.returns
 returns c =
-    let a = c .number .ensures in
-    let b = c .number-2 .ensures in
-    (λ e. same-ground _ _ (sym a ∙ eqb-true _ _ e ∙ b), λ e. eq-eqb _ _ (a ∙ ap ground-number e ∙ sym b))
+    let is = c .same-number .ensures in
+    (λ e. same-ground _ _ (eqb-true _ _ (sym is ∙ e)), λ e. is ∙ eq-eqb _ _ (ap ground-number e))
