@@ -18,6 +18,7 @@ impl Operation {
     pub fn decode(bits: u64) -> Option<Operation>
         ensures { λ r. ⌜ r ≡ decoded bits ⌝ }
     {
+        // Kind 2 bits, account 4, amount 32, filling 26.
         let account = ((bits >> 58) % 16) as u8;
         let amount = ((bits >> 26) % 0x1_0000_0000) as u32;
         match bits >> 62 {

@@ -68,3 +68,6 @@ pub fn worked_checks() -> [[u64; 3]; 3]
 {
     run()
 }
+
+#[cfg(test)]
+mod tests;

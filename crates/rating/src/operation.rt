@@ -19,6 +19,8 @@ impl Operation {
     pub fn decode(bits: u64) -> Option<Operation>
         ensures { λ r. ⌜ r ≡ decoded bits ⌝ }
     {
+        // LOAD: kind 2 bits, curve 3, low 14, high 14, offset 20, slope 11. READ: kind 2, stage 14,
+        // filling 48.
         let low = ((bits >> 45) % 0x4000) as u16;
         let high = ((bits >> 31) % 0x4000) as u16;
         match bits >> 62 {

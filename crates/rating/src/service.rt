@@ -1,11 +1,10 @@
 ghost use mathlib.Core.Path.{_≡_};
 ghost use mathlib.Core.Bool.{true};
-ghost use mathlib.Core.List.{List, []};
+ghost use mathlib.Core.List.{[]};
 ghost use Prim.Native.Nat.{_<_, _≤_};
 ghost use lib.ListN.{take};
-ghost use Rattle.rating.specs.declared.curve.Curve.{Curve as ACurve};
 ghost use Rattle.rating.specs.Curves.{deciding, loaded, numbered};
-ghost use Rattle.rating.specs.Rating.{«flow-by», «rating-next», «rating-answer»};
+ghost use Rattle.rating.specs.Rating.{Curves, «curves-of», «flow-by», «rating-next», «rating-answer»};
 use crate::curve::Curve;
 use crate::curve::deciding;
 use crate::operation::Operation;
@@ -45,7 +44,7 @@ fn insert(curves: &mut [Curve; 8], count: usize, curve: Curve) -> usize
 impl Rating {
     /// A rating service without curves.
     pub fn new() -> Rating
-        ensures { λ s. ⌜ take (s .count) (s .curves) ≡ [] ⌝ }
+        ensures { λ s. ⌜ curves-of s ≡ [] ⌝ }
     {
         Rating {
             curves: [BLANK; 8],
@@ -53,16 +52,18 @@ impl Rating {
         }
     }
 
+    // Loads a curve.
     fn load(&mut self, curve: Curve)
         requires { ⌜ curve .number < 8 ⌝ }
-        ensures { λ _. ⌜ take (now (self .exit) .count) (now (self .exit) .curves) ≡ loaded curve (take (now (self .entry) .count) (now (self .entry) .curves)) ⌝ }
+        ensures { λ _. ⌜ curves-of (now (self .exit)) ≡ loaded curve (curves-of (now (self .entry))) ⌝ }
     {
         let count = self.count;
         self.count = insert(&mut self.curves, count, curve);
     }
 
+    // The answer to a READ.
     fn read(&self, stage: u16) -> u64
-        ensures { λ r. ⌜ r ≡ flow-by stage (deciding stage (take (now (self .entry) .count) (now (self .entry) .curves))) ⌝ }
+        ensures { λ r. ⌜ r ≡ flow-by stage (deciding stage (curves-of (now (self .entry)))) ⌝ }
     {
         match deciding(&self.curves[0..self.count], stage) {
             Some(curve) => curve.flow(stage),
@@ -72,9 +73,9 @@ impl Rating {
 }
 
 pub impl Service for Rating as RatingService {
-    ghost State = { List ACurve };
+    ghost State = { Curves };
 
-    ghost state = { λ s. take (s .count) (s .curves) };
+    ghost state = { curves-of };
 
     ghost fresh = { λ _. [] };
 

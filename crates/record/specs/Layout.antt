@@ -3,6 +3,11 @@
 --   keeps-layout r  — the same as a test; shut, so that what stands above need not look inside
 --   passes r        — that test in the open: the ranges that all kinds share, then the rule of r's kind
 --   by-kind r       — the rule of r's kind
+--   reply-rule r    — the rule of REPLY
+--   gap-rule r      — the rule of FIND and DROP
+--   verdict-rule r  — the rule of DECISION, PREPARE and COMMIT
+--   change-rule r   — the rule of VIEW-CHANGE
+--   line-rule r     — the rule of VIEW-START and ENTRY
 -- The kinds are 1 REPLY, 2 FIND, 3 DROP, 4 DECISION, 5 PREPARE, 6 COMMIT, 7 VIEW-CHANGE, 8 VIEW-START and 9 ENTRY.
 use mathlib.Core.Path.{_≡_}
 use mathlib.Core.Bool.{Bool, false, cond, _&&_}

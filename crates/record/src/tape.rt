@@ -1,15 +1,10 @@
 ghost use mathlib.Core.Path.{_≡_};
-ghost use mathlib.Core.Bool.{true, false};
-ghost use Prim.Native.Nat.{_-_, _/_, _<_, _≤_};
-ghost use lib.ListN.{length};
+ghost use Prim.Native.Nat.{_-_, _<_, _≤_};
 ghost use denote.Ref.{now};
 ghost use Rattle.std.specs.Options.{Cases};
-ghost use Rattle.std.specs.declared.result.Result.the-variants.{Ok, Err};
-ghost use Rattle.refusal.specs.Grounds.{refused};
-ghost use Rattle.refusal.specs.declared.Ground.the-variants.{BufferLength};
 ghost use Rattle.record.specs.Packed.{Unpacks};
-ghost use Rattle.record.specs.Tapes.{whole, place};
-ghost use Rattle.record.specs.Reads.{Reads};
+ghost use Rattle.record.specs.Tapes.{places, place};
+ghost use Rattle.record.specs.Reads.{Begins, Reads};
 use crate::Record;
 use crate::SIZE;
 use refusal::Ground;
@@ -39,7 +34,7 @@ impl Part<'_> {
 
 // The bytes at a position of the tape, if there are any.
 fn part_at(tape: &[u8], position: usize) -> Option<&[u8; SIZE]>
-    ensures { λ r. ⌜ Cases r (length (now (tape .entry)) / 20 ≤ position) (λ b. (position < length (now (tape .entry)) / 20) × (now b ≡ place position (now (tape .entry)))) ⌝ }
+    ensures { λ r. ⌜ Cases r (places (now (tape .entry)) ≤ position) (λ b. (position < places (now (tape .entry))) × (now b ≡ place position (now (tape .entry)))) ⌝ }
 {
     if position >= tape.len() / SIZE {
         return None;
@@ -57,7 +52,7 @@ pub struct Reader<'a> {
 impl<'a> Reader<'a> {
     /// A reader at the start of the tape. A tape that is empty, or no whole number of records, is refused.
     pub fn new(tape: &'a [u8]) -> Result<Reader<'a>, Refusal>
-        ensures { λ a. ⌜ elim a [ Ok s ↦ (whole (now (tape .entry)) ≡ true) × (now (s .tape) ≡ now (tape .entry)) × (s .position ≡ 0) | Err e ↦ (whole (now (tape .entry)) ≡ false) × (e ≡ refused BufferLength 0) ] ⌝ }
+        ensures { λ a. ⌜ Begins (now (tape .entry)) a ⌝ }
     {
         if tape.is_empty() || tape.len() % SIZE != 0 {
             return Err(Refusal {
@@ -72,11 +67,11 @@ impl<'a> Reader<'a> {
 pub impl<'a> Iterator for Reader<'a> as ReaderIterator {
     type Item = Part<'a>;
 
-    ghost steps = { λ s r t. Reads (now (s .tape)) (s .position) r (now (t .tape)) (t .position) };
+    ghost steps = { Reads };
 
     ghost ends = { λ _. Unit {0} };
 
-    ghost left = { λ s. length (now (s .tape)) / 20 - s .position };
+    ghost left = { λ s. places (now (s .tape)) - s .position };
 
     fn next(&mut self) -> Option<Part<'a>> {
         let position = self.position;
