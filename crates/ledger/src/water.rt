@@ -1,4 +1,8 @@
 //! An account of water that is drawn down.
+ghost use mathlib.Core.Path.{_≡_};
+ghost use Rattle.std.specs.Vec.{made};
+ghost use Rattle.std.specs.declared.option.Option.the-variants.{Some};
+ghost use Rattle.allotment.specs.Decoded.{decoded};
 use allotment::Allotment;
 use allotment::AllotmentService;
 use allotment::Operation;
@@ -6,7 +10,9 @@ use service::OUT_OF_RANGE;
 use service::Service;
 use std::error::AnyError;
 
-fn encode(operation: Operation) -> Result<u64, AnyError> {
+fn encode(operation: Operation) -> Result<u64, AnyError>
+    ensures { λ r. ⌜ made r (λ n. decoded n ≡ Some operation) ⌝ }
+{
     match operation.encode() {
         Some(bits) => Ok(bits),
         None => Err("an allotment operation names no account".into()),
