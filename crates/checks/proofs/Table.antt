@@ -1,7 +1,7 @@
 -- The table of worked checks, computed.
 use mathlib.Core.Path.{_≡_, refl}
-use mathlib.Core.List.{List, [], _∷_}
-use Prim.Native.Nat.{ℕ, _%_}
+use mathlib.Core.List.{_∷_}
+use Prim.Native.Nat.{_%_}
 use native.Mathlib.Omega.{arith}
 use lib.ListN.{replicate}
 use Rattle.record.specs.Bytes.{be}

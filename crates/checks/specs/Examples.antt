@@ -1,6 +1,7 @@
 -- The examples that the worked checks are about.
 --   a-reply             — the REPLY of signer 2, view 0, slot 1, word 0, result 6200
 --   a-view-change       — the VIEW-CHANGE of signer 3, target 1, last 0, reach 2, word 1
+--   load c l h o s      — the bits of LOAD curve c: stages l to h, offset o, slope s
 --   low-curve           — the bits of LOAD curve 0: stages 0 to 2000, offset 0, slope 3
 --   high-curve          — the bits of LOAD curve 1: stages 2000 to 5000, offset 6200, slope 5
 --   read-at s           — the bits of READ at the stage s
@@ -9,8 +10,7 @@
 --   balance-after os o  — what a fresh allotment service answers to the operation o after the operations os
 use mathlib.Core.List.{List, [], _∷_}
 use Prim.Native.Nat.{ℕ}
-use Rattle.record.specs.Bytes.{joined}
-use Rattle.record.specs.Packed.{of-width}
+use Rattle.record.specs.Bytes.{of-width, joined}
 use Rattle.record.specs.declared.Record.{Record}
 use Rattle.service.specs.Operations.{after}
 use Rattle.rating.specs.Rating.{rating-next, rating-answer}

@@ -4,9 +4,9 @@
 use mathlib.Core.Path.{_≡_}
 use mathlib.Core.List.{List, [], _∷_, _++_}
 use Prim.Native.Nat.{ℕ, _^_}
-use lib.ListN.{take, replicate}
+use lib.ListN.{replicate}
 use Rattle.std.specs.declared.result.Result.the-variants.{Ok}
-use Rattle.record.specs.Packed.{packed, packing, Packs}
+use Rattle.record.specs.Packed.{packing, Packs}
 use Rattle.record.specs.declared.Record.{Record}
 use Rattle.checks.specs.Examples.{a-reply, a-view-change, low-curve, high-curve, flow-after, grant, draw, balance-after}
 

@@ -2,8 +2,7 @@
 //! of records and services cite, and run.
 ghost use mathlib.Core.Path.{_≡_};
 ghost use mathlib.Core.List.{[], _∷_};
-ghost use Prim.Native.Nat.{ℕ};
-ghost use Rattle.checks.specs.Examples.{«flow-after», «read-at»};
+ghost use Rattle.checks.specs.Examples.{«flow-after»};
 ghost use Rattle.checks.specs.Worked.{«Worked-checks», «worked-run»};
 use allotment::Allotment;
 use allotment::AllotmentService;

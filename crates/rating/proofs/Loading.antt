@@ -1,14 +1,13 @@
 -- Putting a curve before the others, one place after the other.
-use mathlib.Core.Path.{_≡_, refl, sym, ap, _∙_}
-use mathlib.Core.Bool.{Bool, true, false, cond}
+use mathlib.Core.Path.{_≡_, sym, ap, _∙_}
 use mathlib.Core.List.{List, [], _∷_, _++_}
-use Prim.Native.Nat.{ℕ, suc, _+_, _<_, _≤_}
+use Prim.Native.Nat.{ℕ, _+_, _<_, _≤_}
 use native.Mathlib.Numerals.{add-one}
 use native.Mathlib.Omega.{arith}
 use lib.Dec.{eqb}
 use lib.ListN.{length, take, drop, getD, set}
 use lib.Seq.{take-set-lt}
-use Rattle.std.proofs.shelf.Lists.{append-assoc, getD-take, drop-more, drop-all, drop-set-lt, length-take-le, length-append, length-push, set-split, take-take, take-more-set}
+use Rattle.std.proofs.shelf.Lists.{append-assoc, getD-take, drop-more, drop-all, drop-set-lt, length-take-le, set-split, take-take, take-more-set}
 use Rattle.std.proofs.shelf.Tests.{cond-true, cond-false, eq-eqb, ne-eqb}
 use Rattle.rating.specs.Curves.{without, loaded}
 use Rattle.rating.specs.declared.curve.Curve.{Curve}

@@ -2,7 +2,7 @@
 --   curve-of op  — the curve in the fields of a LOAD
 --   stage-of op  — the stage in the field of a READ
 --   decoded op   — the operation that the 64 bits op stand for, if any
-use mathlib.Core.Bool.{Bool, cond, _&&_}
+use mathlib.Core.Bool.{cond, _&&_}
 use Prim.Native.Nat.{ℕ}
 use lib.Dec.{eqb, leb}
 use Rattle.std.specs.declared.option.Option.{Option}

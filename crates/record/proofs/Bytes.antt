@@ -1,5 +1,5 @@
 -- Laws of the bytes of a number, for every number of bytes.
-use mathlib.Core.Path.{_≡_, refl, sym, ap, subst, _∙_}
+use mathlib.Core.Path.{_≡_, refl, sym, ap, _∙_}
 use mathlib.Core.List.{List, [], _∷_, _++_}
 use Prim.Native.Nat.{ℕ, zero, suc, _+_, _*_, _/_, _%_, _^_, _<_, _≤_}
 use native.Mathlib.Nat.{pow-suc, suc-add, zero-add, mul-assoc, one-le-pow, div-div-eq-div-mul, div-add-mod', mul-add-div-right, mul-comm, mul-le-mul-right}
@@ -7,7 +7,7 @@ use native.Mathlib.Omega.{arith}
 use lib.Pow.{pow-add}
 use lib.ListN.{length, getD, take, drop}
 use Rattle.std.specs.shelf.Lists.{All}
-use Rattle.std.proofs.shelf.Bits.{div-mul-add, mod-mul-add, mod-below, div-below}
+use Rattle.std.proofs.shelf.Bits.{div-mul-add, mod-below, div-below}
 use Rattle.record.specs.Bytes.{be}
 use Rattle.record.proofs.Lists.{elements, elements-cut, length-elements, all-elements}
 

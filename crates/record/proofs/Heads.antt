@@ -1,10 +1,9 @@
 -- The first 32 bits of a record, and the record that has them.
 use mathlib.Core.Path.{_≡_}
-use Prim.Native.Nat.{ℕ, _+_, _*_, _/_, _%_, _^_, _<_}
+use Prim.Native.Nat.{ℕ, _/_, _%_, _^_, _<_}
 use native.Mathlib.Nat.{div-div-eq-div-mul}
 use native.Mathlib.Omega.{arith}
 use Rattle.record.specs.Heads.{head-of, with-head}
-use Rattle.record.specs.Layout.{Layout}
 use Rattle.record.specs.declared.Record.{Record}
 
 -- the fields of a record that keeps the layout fit their bits

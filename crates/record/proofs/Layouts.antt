@@ -1,14 +1,14 @@
 -- The test of the layout tells whether its rules hold.
 use mathlib.Core.Path.{_≡_, refl}
 use mathlib.Core.Bool.{Bool, true, false, cond, _&&_}
-use Prim.Native.Nat.{_<_, _≤_, _^_}
+use Prim.Native.Nat.{_<_}
 use native.Mathlib.Omega.{arith}
 use lib.Dec.{eqb, leb, ltb}
-use lib.Pow.{pow-mono, pow-pos}
+use lib.Pow.{pow-pos}
 use Rattle.std.specs.Orderings.{Decides}
 use Rattle.std.proofs.shelf.Tests.{and-parts, ltb-true}
 use Rattle.std.proofs.shelf.Ways.{tells}
-use Rattle.record.specs.Layout.{Layout, keeps-layout, passes, by-kind, reply-rule, gap-rule, verdict-rule, change-rule, line-rule}
+use Rattle.record.specs.Layout.{Layout, keeps-layout, by-kind, reply-rule, gap-rule, verdict-rule, change-rule, line-rule}
 use Rattle.record.specs.declared.Record.{Record}
 
 -- what follows from the rule of each kind follows from the rule of r's kind

@@ -11,7 +11,7 @@
 -- The kinds are 1 REPLY, 2 FIND, 3 DROP, 4 DECISION, 5 PREPARE, 6 COMMIT, 7 VIEW-CHANGE, 8 VIEW-START and 9 ENTRY.
 use mathlib.Core.Path.{_≡_}
 use mathlib.Core.Bool.{Bool, false, cond, _&&_}
-use Prim.Native.Nat.{ℕ, _^_, _<_, _≤_}
+use Prim.Native.Nat.{_^_, _<_, _≤_}
 use lib.Dec.{ltb, leb, eqb}
 use Rattle.record.specs.declared.Record.{Record}
 

@@ -1,5 +1,4 @@
 -- The 20 bytes of a record.
---   of-width w v   — the field of w bits that holds v
 --   fields r       — the fields of r from the most significant bit down
 --   packed r       — the 20 bytes of r
 --   Packs r b      — r keeps the layout, and b are its bytes
@@ -14,12 +13,9 @@ use Rattle.std.specs.declared.result.Result.the-variants.{Ok, Err}
 use Rattle.refusal.specs.declared.Ground.the-variants.{Layout}
 use Rattle.refusal.specs.declared.Refusal.{Refusal}
 use Rattle.refusal.specs.Grounds.{refused}
-use Rattle.record.specs.Bytes.{be, Field, joined}
+use Rattle.record.specs.Bytes.{be, Field, of-width, joined}
 use Rattle.record.specs.Layout.{keeps-layout}
 use Rattle.record.specs.declared.Record.{Record}
-
-abbrev pub of-width : ℕ → ℕ → Field
-of-width w v = record { width = w; value = v }
 
 abbrev pub fields : Record → List Field
 fields r =

@@ -2,11 +2,9 @@ use mathlib.Core.Path.{_≡_, sym, ap, _∙_}
 use mathlib.Core.List.{[], _∷_, _++_}
 use Prim.Native.Nat.{ℕ, _+_, _<_}
 use native.Mathlib.Omega.{arith}
-use borrow.Author.Needs.{needs}
 use lib.ListN.{length, take, length-set}
 use Rattle.std.proofs.shelf.Lists.{take-more-set, length-push, length-take-le}
 use Rattle.rating.specs.Curves.{loaded}
-use Rattle.rating.specs.declared.curve.Curve.{Curve}
 use Rattle.rating.proofs.Loading.{closed, moved, pushed}
 use Rattle.rating.proofs.Numbers.{loaded-numbered, few}
 use Rattle.rating.proofs.service.insert.Needs as need

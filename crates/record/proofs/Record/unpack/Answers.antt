@@ -1,6 +1,4 @@
-use mathlib.Core.Path.{_≡_, refl, sym, ap, _∙_}
-use mathlib.Core.Bool.{true, false}
-use Prim.Native.Nat.{ℕ}
+use mathlib.Core.Path.{refl, sym, ap, _∙_}
 use Rattle.std.proofs.shelf.Tests.{both-ways, eqb-true, eqb-false}
 use Rattle.record.specs.Layout.{keeps-layout}
 use Rattle.record.specs.Packed.{packed}
