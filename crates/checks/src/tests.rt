@@ -5,6 +5,7 @@ use record::ReaderIterator;
 use record::Record;
 use record::RecordDebug;
 use record::RecordPartialEq;
+use record::kind;
 use refusal::Ground;
 use refusal::GroundDebug;
 use refusal::GroundPartialEq;
@@ -44,18 +45,20 @@ fn layout(place: u64) -> Refusal {
 #[test]
 fn each_kind_comes_back() -> Result<(), Fail> {
     let records = [
-        record(1, 63, 0, 63, 0, 0x7fff_ffff_ffff_ffff, u64::MAX),
-        record(2, 0, 0, 63, 0, 0, 0),
-        record(3, 1, 0, 0, 0, 0, 0),
-        record(4, 2, 0, 5, 1, 0, 0),
-        record(5, 2, 0, 5, 0, 0, 0),
-        record(6, 2, 0, 5, 1, 0, 0),
-        record(7, 63, 62, 64, 0, u64::MAX, 0),
-        record(8, 1, 0, 64, 0, 1 << 63, 0),
-        record(9, 1, 0, 0, 0, 0, 0),
+        record(kind::REPLY, 63, 0, 63, 0, 0x7fff_ffff_ffff_ffff, u64::MAX),
+        record(kind::FIND, 0, 0, 63, 0, 0, 0),
+        record(kind::DROP, 1, 0, 0, 0, 0, 0),
+        record(kind::DECISION, 2, 0, 5, 1, 0, 0),
+        record(kind::PREPARE, 2, 0, 5, 0, 0, 0),
+        record(kind::COMMIT, 2, 0, 5, 1, 0, 0),
+        record(kind::VIEW_CHANGE, 63, 62, 64, 0, u64::MAX, 0),
+        record(kind::VIEW_START, 1, 0, 64, 0, 1 << 63, 0),
+        record(kind::ENTRY, 1, 0, 0, 0, 0, 0),
     ];
-    for r in records {
-        check_eq(Record::unpack(&r.pack()?)?, r)?;
+    for (i, r) in records.iter().enumerate() {
+        let bytes = r.pack()?;
+        check_eq(usize::from(bytes[0] / 16), i + 1).note("the kinds are 1 to 9 in this order")?;
+        check_eq(Record::unpack(&bytes)?, *r)?;
     }
     Ok(())
 }
