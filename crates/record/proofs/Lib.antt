@@ -3,3 +3,4 @@ pub mod Bytes
 pub mod Lists
 pub mod Heads
 pub mod Packs
+pub mod Same

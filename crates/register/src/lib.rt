@@ -1,0 +1,35 @@
+//! A register holds a set of statements and has a number of free places. This is what it means to
+//! be one; how statements are stored is each register's own.
+ghost use mathlib.Core.Path.{_≡_};
+ghost use mathlib.Core.Bool.{Bool, true};
+ghost use Prim.Native.Nat.{ℕ};
+ghost use denote.Ref.{now};
+ghost use Rattle.std.specs.Orderings.{Decides};
+ghost use Rattle.record.specs.Layout.{«keeps-layout»};
+ghost use Rattle.record.specs.declared.Record.{Record};
+ghost use Rattle.register.specs.Sets.{Entered, nothing};
+use record::Record;
+use refusal::Refusal;
+
+/// A register. Its meaning is the set of statements that it holds, `held`, and the number of its
+/// free places, `free`.
+pub trait Register {
+    ghost held: { Self → Record → Bool };
+
+    ghost free: { Self → ℕ };
+
+    /// Whether `r` is a member. A record that breaks the layout never is.
+    fn ask(&self, r: &Record) -> bool
+        ensures member { λ b. ⌜ b ≡ held (now (self .entry)) (now (r .entry)) ⌝ }
+        ensures statement { λ b. ⌜ (b ≡ true → keeps-layout (now (r .entry)) ≡ true) ⌝ };
+
+    /// Whether there is no member.
+    fn is_empty(&self) -> bool
+        ensures { λ b. ⌜ Decides b (held (now (self .entry)) ≡ nothing) ⌝ };
+
+    /// Enters `r`. A record that breaks the layout is refused. A member is granted and changes
+    /// nothing. Another statement is added and uses one free place, or, if there is none, it is
+    /// refused. A refusal changes nothing.
+    fn enter(&mut self, r: &Record) -> Result<(), Refusal>
+        ensures { λ a. ⌜ Entered (held (now (self .entry))) (free (now (self .entry))) (now (r .entry)) a (held (now (self .exit))) (free (now (self .exit))) ⌝ };
+}

@@ -1,0 +1,65 @@
+-- What a list of places stores, one place more.
+use mathlib.Core.Path.{_≡_, sym, ap, subst, fun-ext, _∙_}
+use mathlib.Core.Bool.{Bool, true, false, _&&_, _||_}
+use mathlib.Core.List.{List, [], _∷_, _++_}
+use Prim.Native.Nat.{ℕ, zero, suc, _+_, _<_, _≤_}
+use native.Mathlib.Omega.{arith}
+use lib.ListN.{length, getD, take}
+use Rattle.std.proofs.shelf.Lists.{take-all, take-more}
+use Rattle.std.proofs.shelf.Tests.{and-from, or-from, or-left, or-right, false≢true}
+use Rattle.std.specs.Orderings.{Decides}
+use Rattle.record.specs.Layout.{keeps-layout}
+use Rattle.record.specs.Same.{same}
+use Rattle.record.specs.declared.Record.{Record}
+use Rattle.record.proofs.Same.{same-decides}
+use Rattle.register.specs.Sets.{nothing, added}
+use Rattle.registers.specs.Stored.{any, stored}
+
+or-assoc : (a b c : Bool) → ((a || b) || c) ≡ (a || (b || c))
+or-assoc a b c = grind arith
+
+or-none : (a : Bool) → (a || false) ≡ a
+or-none a = grind arith
+
+pub any-push : {X : Type 0} (p : X → Bool) (ys : List X) (y : X) → any p (ys ++ y ∷ []) ≡ (any p ys || p y)
+any-push p [] y = or-none (p y)
+any-push p (z ∷ ys) y = ap (λ (b : Bool). p z || b) (any-push p ys y) ∙ sym (or-assoc (p z) (any p ys) (p y))
+
+pub any-at : {X : Type 0} (p : X → Bool) (ys : List X) (i : ℕ) (d : X) → i < length ys → p (getD ys i d) ≡ true → any p ys ≡ true
+any-at p [] i d l h = absurd (omega arith)
+any-at p (y ∷ ys) zero d l h = or-left (p y) (any p ys) h
+any-at p (y ∷ ys) (suc i) d l h = or-right (p y) (any p ys) (any-at p ys i d (omega arith) h)
+
+-- a loop that has found none of the first i places to pass
+module _ {X : Type 0} (p : X → Bool) (ys : List X) (i : ℕ) where
+  pub any-more : (d : X) → i < length ys → p (getD ys i d) ≡ false → any p (take i ys) ≡ false → any p (take (i + 1) ys) ≡ false
+  any-more d l h e = ap (any p) (take-more ys i d l) ∙ any-push p (take i ys) (getD ys i d) ∙ or-from (any p (take i ys)) _ e h
+
+  pub any-all : length ys ≤ i → any p (take i ys) ≡ false → any p ys ≡ false
+  any-all l e = sym (ap (any p) (take-all i ys l)) ∙ e
+
+module _ {X : Type 0} (m : Record → X → Bool) (ys : List X) where
+  -- a place more that holds just r
+  pub stored-push : (y : X) (r : Record) → keeps-layout r ≡ true → ((x : Record) → keeps-layout x ≡ true → m x y ≡ same r x) → stored m (ys ++ y ∷ []) ≡ added (stored m ys) r
+  stored-push y r kept is =
+      fun-ext (λ x.
+        let more = any-push (m x) ys y in
+        let here = is x in
+        let decides = same-decides r x in
+        let kept-too : same r x ≡ true → keeps-layout x ≡ true = λ h. subst (λ (z : Record). keeps-layout z ≡ true) (decides .0 h) kept in
+        grind arith)
+
+  -- a place that holds a statement
+  pub stored-some : (i : ℕ) (d : X) (x : Record) → i < length ys → keeps-layout x ≡ true → m x (getD ys i d) ≡ true → Decides false (stored m ys ≡ nothing)
+  stored-some i d x l kept h =
+      ( λ e. absurd (false≢true e)
+      , λ e. sym (ap (λ (s : Record → Bool). s x) e) ∙ and-from (keeps-layout x) _ kept (any-at (m x) ys i d l h) )
+
+  -- a place more that holds no statement
+  pub stored-none : (y : X) → ((x : Record) → keeps-layout x ≡ true → m x y ≡ false) → stored m ys ≡ nothing → stored m (ys ++ y ∷ []) ≡ nothing
+  stored-none y none e =
+      fun-ext (λ x.
+        let more = any-push (m x) ys y in
+        let before : stored m ys x ≡ false = ap (λ (s : Record → Bool). s x) e in
+        let here = none x in
+        grind arith)
