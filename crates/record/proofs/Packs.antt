@@ -110,3 +110,7 @@ packs-alone r x b p q =
 -- the filling bits of a record's bytes are 0
 pub split-even : (b : List ℕ) (h w a : ℕ) → Splits b h w a → (r : Record) → Packs r b → h % 16 ≡ 0
 split-even b h w a s r p = ap (λ (x : ℕ). x % 16) (split-head b h w a s r p) ∙ head-even r
+
+pub length-packed : (r : Record) → length (packed r) ≡ 20
+unfolding packed
+length-packed r = length-be 20 (joined 0 (fields r))

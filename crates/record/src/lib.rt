@@ -7,6 +7,7 @@ mod tape;
 pub use tape::Part;
 pub use tape::Reader;
 pub use tape::ReaderIterator;
+pub use tape::part_at;
 
 /// The number of bytes that a record is packed into.
 pub const SIZE: usize = 20;

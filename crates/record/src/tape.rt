@@ -32,8 +32,9 @@ impl Part<'_> {
     }
 }
 
-// The bytes at a position of the tape, if there are any.
-fn part_at(tape: &[u8], position: usize) -> Option<&[u8; SIZE]>
+/// The 20 bytes at a position of a tape, if there are so many. What is too short for a record at
+/// the end of the tape has no position.
+pub fn part_at(tape: &[u8], position: usize) -> Option<&[u8; SIZE]>
     ensures { λ r. ⌜ Cases r (places (now (tape .entry)) ≤ position) (λ b. (position < places (now (tape .entry))) × (now b ≡ place position (now (tape .entry)))) ⌝ }
 {
     if position >= tape.len() / SIZE {

@@ -1,3 +1,4 @@
 pub mod Stored
 pub mod Places
 pub mod Tables
+pub mod Tapes

@@ -1,9 +1,12 @@
 //! Registers.
 mod places;
 mod table;
+mod tape;
 
 pub use table::Table;
 pub use table::TableRegister;
+pub use tape::Tape;
+pub use tape::TapeRegister;
 
 use refusal::Ground;
 use refusal::Refusal;

@@ -1,0 +1,9 @@
+use borrow.Author.Needs.{needs}
+use Rattle.registers.proofs.TapePlaces.{part-found, part-passed}
+use Rattle.registers.proofs.tape.has.Needs as need
+
+pub returns-then-part-is : need.returns-then-part-is
+returns-then-part-is c = search (needs, part-found)
+
+pub loop-i-again : need.loop-i-again
+loop-i-again c = search (needs, part-passed)

@@ -1,0 +1,7 @@
+use Rattle.std.proofs.shelf.Ways.{decides-at}
+use Rattle.registers.proofs.TapePlaces.{unpacked}
+use Rattle.registers.proofs.tape.part_holds.Needs as need
+
+pub returns-in-Some : need.returns-in-Some
+returns-in-Some c =
+    decides-at _ _ (c .is-ok .ensures .value) (unpacked (c .unpack .result) _ _ (c .in-Some .ensures tt .1) (c .unpack .ensures))
