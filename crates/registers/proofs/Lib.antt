@@ -1,3 +1,4 @@
 pub mod Stored
 pub mod RecordPlaces
 pub mod TapePlaces
+pub mod Together

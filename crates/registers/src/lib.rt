@@ -1,8 +1,12 @@
 //! Registers.
 mod places;
 mod table;
+mod sheet;
+mod spare;
 mod tape;
 
+pub use spare::SpareSheet;
+pub use spare::SpareSheetRegister;
 pub use table::Table;
 pub use table::TableRegister;
 pub use tape::Tape;
