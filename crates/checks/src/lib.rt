@@ -69,4 +69,6 @@ pub fn worked_checks() -> [[u64; 3]; 3]
 }
 
 #[cfg(test)]
+mod register_tests;
+#[cfg(test)]
 mod tests;

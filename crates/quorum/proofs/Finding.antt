@@ -71,14 +71,14 @@ module _ (p : ℕ → Bool) where
           ];
           rising = λ j k jk lt. elim (cases-eq k m) [
             | inl e ↦
-              let v = ap (λ (x : ℕ). getD (set w m i) x 0) e in
-              let b = f .below j (omega arith) in
-              let o = there j (λ z. omega arith) in
-              omega (arith, v, here, b, o)
+                let v = ap (λ (x : ℕ). getD (set w m i) x 0) e in
+                let b = f .below j (omega arith) in
+                let o = there j (λ z. omega arith) in
+                omega (arith, v, here, b, o)
             | inr ne ↦
-              let b = f .rising j k jk (omega arith) in
-              let o = there j (λ z. omega arith) in
-              omega (arith, b, o, there k ne)
+                let b = f .rising j k jk (omega arith) in
+                let o = there j (λ z. omega arith) in
+                omega (arith, b, o, there k ne)
           ];
           others = λ k le. there k (λ z. omega arith) ∙ f .others k (omega arith);
         }
@@ -87,11 +87,12 @@ module _ (p : ℕ → Bool) where
     pub found-enough : (n q : ℕ) → i ≤ n → m ≡ q → (q ≤ count n p) × Witnesses n q p w
     found-enough n q l e =
         let rises = count-rises p i n l in
-        let number = f .number in
-        ( omega (arith, rises, number, e)
-        , record {
+        let number = f .number in (
+          omega (arith, rises, number, e),
+          record {
             below = λ k lt. let b = f .below k (omega (arith, e)) in omega (arith, b);
             pass = λ k lt. f .pass k (omega (arith, e));
             different = λ j k jk lt same. let r = f .rising j k jk (omega (arith, e)) in omega (arith, r, same);
             others = λ k le. f .others k (omega (arith, e));
-          } )
+          },
+        )

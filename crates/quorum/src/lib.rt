@@ -6,22 +6,29 @@ ghost use lib.Dec.{leb};
 ghost use denote.Ref.{now};
 ghost use Rattle.std.specs.Options.{Cases};
 ghost use Rattle.record.specs.Layout.{«keeps-layout»};
-ghost use Rattle.quorum.specs.Quorums.{said, count, Witnesses};
+ghost use Rattle.quorum.specs.Quorums.{«signed-by», said, count, Witnesses};
 use record::Record;
 use register::Register;
 
 /// The greatest number of signers that a statement can have.
 pub const SIGNERS: usize = 16;
 
-// Whether replica `signer` said the statement. Only a number below 16 can be a signer.
-fn said<R: Register>(register: &R, statement: &Record, signer: u8) -> bool
-    ensures said { λ r. ⌜ r ≡ said (held (now (register .entry))) (now (statement .entry)) signer ⌝ }
-    ensures below { λ r. ⌜ (r ≡ true → signer < 16) ⌝ }
+// The statement, said by another signer.
+fn signed_by(statement: &Record, signer: u8) -> Record
+    ensures { λ r. ⌜ r ≡ signed-by (now (statement .entry)) signer ⌝ }
 {
-    register.ask(&Record {
+    Record {
         signer,
         ..*statement
-    })
+    }
+}
+
+// Whether a replica said the statement. Only a number below 16 can be a signer's.
+fn said<R: Register>(register: &R, statement: &Record, replica: u8) -> bool
+    ensures said { λ r. ⌜ r ≡ said (held (now (register .entry))) (now (statement .entry)) replica ⌝ }
+    ensures below { λ r. ⌜ (r ≡ true → replica < 16) ⌝ }
+{
+    register.ask(&signed_by(statement, replica))
 }
 
 /// How many of the replicas below `n` said the statement, each under its own number.
@@ -49,14 +56,14 @@ pub fn witnesses<R: Register>(
 {
     let mut found = [0; SIGNERS];
     let mut count = 0;
-    for signer in 0..n {
+    for replica in 0..n {
         if count == usize::from(q) {
             break;
         }
-        if !said(register, statement, signer) {
+        if !said(register, statement, replica) {
             continue;
         }
-        found[count] = signer;
+        found[count] = replica;
         count += 1;
     }
     if count < usize::from(q) {

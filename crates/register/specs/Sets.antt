@@ -1,6 +1,7 @@
 -- What a register means, a set of statements and a number of free places, and what entering one does.
 --   Set                    — a set of records, as a test
 --   nothing                — the empty set
+--   Emptiness s b          — b tells whether s is empty: it is true if s has no member, and false if it has one
 --   added s r              — s with r in it
 --   adds s n r             — entering r adds it: r keeps the layout, is no member, and of n free places there is one
 --   entering s n r         — what entering r answers
@@ -8,7 +9,7 @@
 --   free-after s n r       — the number of free places afterwards
 --   Entered s n r a s′ n′  — r was entered: that set and number became s′ and n′, and the answer was a
 use mathlib.Core.Path.{_≡_}
-use mathlib.Core.Bool.{Bool, false, cond, not, _&&_, _||_}
+use mathlib.Core.Bool.{Bool, true, false, cond, not, _&&_, _||_}
 use Prim.Native.Nat.{ℕ, _-_}
 use lib.Dec.{eqb}
 use Rattle.std.specs.declared.result.Result.{Result}
@@ -25,6 +26,10 @@ Set = Record → Bool
 
 abbrev pub nothing : Set
 nothing = λ _. false
+
+pub record Emptiness (s : Set) (b : Bool) : Type 0 where
+  pub none : b ≡ true → (x : Record) → s x ≡ false
+  pub some : b ≡ false → (x : Record) × (s x ≡ true)
 
 abbrev pub added : Set → Record → Set
 added s r = λ x. s x || same r x

@@ -4,10 +4,9 @@ ghost use mathlib.Core.Path.{_≡_};
 ghost use mathlib.Core.Bool.{Bool, true};
 ghost use Prim.Native.Nat.{ℕ};
 ghost use denote.Ref.{now};
-ghost use Rattle.std.specs.Orderings.{Decides};
 ghost use Rattle.record.specs.Layout.{«keeps-layout»};
 ghost use Rattle.record.specs.declared.Record.{Record};
-ghost use Rattle.register.specs.Sets.{Entered, nothing};
+ghost use Rattle.register.specs.Sets.{Emptiness, Entered};
 use record::Record;
 use refusal::Refusal;
 
@@ -25,7 +24,7 @@ pub trait Register {
 
     /// Whether there is no member.
     fn is_empty(&self) -> bool
-        ensures { λ b. ⌜ Decides b (held (now (self .entry)) ≡ nothing) ⌝ };
+        ensures { λ b. ⌜ Emptiness (held (now (self .entry))) b ⌝ };
 
     /// Enters `r`. A record that breaks the layout is refused. A member is granted and changes
     /// nothing. Another statement is added and uses one free place, or, if there is none, it is

@@ -7,18 +7,17 @@ use Prim.Native.Nat.{ℕ, _+_, _<_, _≤_, min}
 use native.Mathlib.Omega.{arith}
 use lib.ListN.{length, getD, take, set}
 use Rattle.std.proofs.shelf.Lists.{length-set, take-all, take-more, take-more-set}
-use Rattle.std.proofs.shelf.Tests.{cases-lt, cond-true}
-use Rattle.std.specs.Orderings.{Decides}
+use Rattle.std.proofs.shelf.Tests.{cases-lt}
 use Rattle.std.specs.declared.result.Result.the-variants.{Ok}
 use Rattle.record.specs.Layout.{keeps-layout}
 use Rattle.record.specs.Same.{same}
 use Rattle.record.specs.declared.Record.{Record}
 use Rattle.record.proofs.Same.{same-refl, same-decides}
-use Rattle.register.specs.Sets.{Entered, nothing, added}
-use Rattle.register.proofs.Entering.{entered-new, adds-new}
+use Rattle.register.specs.Sets.{Emptiness, Entered, added}
+use Rattle.register.proofs.Entering.{entered-new}
 use Rattle.registers.specs.Stored.{stored}
-use Rattle.registers.specs.Places.{is-there, in-places, room, entered}
-use Rattle.registers.proofs.Stored.{stored-push, stored-some, stored-none}
+use Rattle.registers.specs.Places.{is-there, in-places, room}
+use Rattle.registers.proofs.Stored.{stored-push, stored-some, stored-none, stored-empty}
 
 pub take-min : (n k : ℕ) (ys : List Record) → k ≡ min n (length ys) → take k ys ≡ take n ys
 take-min n k ys e =
@@ -35,22 +34,19 @@ module _ (n : ℕ) (ys : List Record) (r : Record) (room-left : n < length ys) (
   pub write-enters : Entered (in-places n ys) (room n ys) r (Ok tt) (in-places (n + 1) (set ys n r)) (room (n + 1) (set ys n r))
   write-enters = entered-new (in-places n ys) (room n ys) r kept absent (omega arith) _ _ more (omega (arith, length-set ys n r))
 
-  pub write-is-entered : set ys n r ≡ entered n ys r
-  write-is-entered = sym (cond-true _ (set ys n r) ys (adds-new (in-places n ys) (room n ys) r kept absent (omega arith)))
-
 -- a loop that looks for a statement
 module _ (ys : List Record) (i : ℕ) where
-  pub nothing-no-more : (d : Record) → i < length ys → keeps-layout (getD ys i d) ≡ true → Decides false (stored is-there ys ≡ nothing)
-  nothing-no-more d l kept = stored-some is-there ys i d (getD ys i d) l kept (same-refl (getD ys i d))
+  pub statement-here : (d : Record) → i < length ys → keeps-layout (getD ys i d) ≡ true → Emptiness (stored is-there ys) false
+  statement-here d l kept = stored-some is-there ys i d (getD ys i d) l kept (same-refl (getD ys i d))
 
-  pub nothing-more : (d : Record) → i < length ys → keeps-layout (getD ys i d) ≡ false → stored is-there (take i ys) ≡ nothing → stored is-there (take (i + 1) ys) ≡ nothing
-  nothing-more d l broken e =
+  pub no-statement-here : (d : Record) → i < length ys → keeps-layout (getD ys i d) ≡ false → ((x : Record) → stored is-there (take i ys) x ≡ false) → (x : Record) → stored is-there (take (i + 1) ys) x ≡ false
+  no-statement-here d l broken before x =
       let y = getD ys i d in
-      ap (stored is-there) (take-more ys i d l)
-      ∙ stored-none is-there (take i ys) y (λ x kept.
-          let decides = same-decides y x in
-          let kept-too : same y x ≡ true → keeps-layout y ≡ true = λ h. subst (λ (z : Record). keeps-layout z ≡ true) (sym (decides .0 h)) kept in
-          grind arith) e
+      ap (λ (zs : List Record). stored is-there zs x) (take-more ys i d l)
+      ∙ stored-none is-there (take i ys) y (λ z kept.
+      let decides = same-decides y z in
+      let kept-too : same y z ≡ true → keeps-layout y ≡ true = λ h. subst (λ (u : Record). keeps-layout u ≡ true) (sym (decides .0 h)) kept in
+      grind arith) before x
 
-  pub nothing-all : length ys ≤ i → stored is-there (take i ys) ≡ nothing → Decides true (stored is-there ys ≡ nothing)
-  nothing-all l e = (λ _. sym (ap (stored is-there) (take-all i ys l)) ∙ e, λ _. refl)
+  pub no-statement-all : length ys ≤ i → ((x : Record) → stored is-there (take i ys) x ≡ false) → Emptiness (stored is-there ys) true
+  no-statement-all l none = stored-empty is-there ys (λ x. sym (ap (λ (zs : List Record). stored is-there zs x) (take-all i ys l)) ∙ none x)

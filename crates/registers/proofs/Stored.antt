@@ -6,13 +6,12 @@ use Prim.Native.Nat.{ℕ, zero, suc, _+_, _<_, _≤_}
 use native.Mathlib.Omega.{arith}
 use lib.ListN.{length, getD, take}
 use Rattle.std.proofs.shelf.Lists.{take-all, take-more}
-use Rattle.std.proofs.shelf.Tests.{and-from, or-from, or-left, or-right, false≢true}
-use Rattle.std.specs.Orderings.{Decides}
+use Rattle.std.proofs.shelf.Tests.{and-from, or-from, or-left, or-right, false≢true, true≢false}
 use Rattle.record.specs.Layout.{keeps-layout}
 use Rattle.record.specs.Same.{same}
 use Rattle.record.specs.declared.Record.{Record}
 use Rattle.record.proofs.Same.{same-decides}
-use Rattle.register.specs.Sets.{nothing, added}
+use Rattle.register.specs.Sets.{Emptiness, added}
 use Rattle.registers.specs.Stored.{any, stored}
 
 or-assoc : (a b c : Bool) → ((a || b) || c) ≡ (a || (b || c))
@@ -43,23 +42,28 @@ module _ {X : Type 0} (m : Record → X → Bool) (ys : List X) where
   pub stored-push : (y : X) (r : Record) → keeps-layout r ≡ true → ((x : Record) → keeps-layout x ≡ true → m x y ≡ same r x) → stored m (ys ++ y ∷ []) ≡ added (stored m ys) r
   stored-push y r kept is =
       fun-ext (λ x.
-        let more = any-push (m x) ys y in
-        let here = is x in
-        let decides = same-decides r x in
-        let kept-too : same r x ≡ true → keeps-layout x ≡ true = λ h. subst (λ (z : Record). keeps-layout z ≡ true) (decides .0 h) kept in
-        grind arith)
+      let more = any-push (m x) ys y in
+      let here = is x in
+      let decides = same-decides r x in
+      let kept-too : same r x ≡ true → keeps-layout x ≡ true = λ h. subst (λ (z : Record). keeps-layout z ≡ true) (decides .0 h) kept in
+      grind arith)
 
   -- a place that holds a statement
-  pub stored-some : (i : ℕ) (d : X) (x : Record) → i < length ys → keeps-layout x ≡ true → m x (getD ys i d) ≡ true → Decides false (stored m ys ≡ nothing)
+  pub stored-some : (i : ℕ) (d : X) (x : Record) → i < length ys → keeps-layout x ≡ true → m x (getD ys i d) ≡ true → Emptiness (stored m ys) false
   stored-some i d x l kept h =
-      ( λ e. absurd (false≢true e)
-      , λ e. sym (ap (λ (s : Record → Bool). s x) e) ∙ and-from (keeps-layout x) _ kept (any-at (m x) ys i d l h) )
+      record {
+        none = λ e. absurd (false≢true e);
+        some = λ _. (x, and-from (keeps-layout x) _ kept (any-at (m x) ys i d l h));
+      }
 
   -- a place more that holds no statement
-  pub stored-none : (y : X) → ((x : Record) → keeps-layout x ≡ true → m x y ≡ false) → stored m ys ≡ nothing → stored m (ys ++ y ∷ []) ≡ nothing
-  stored-none y none e =
-      fun-ext (λ x.
-        let more = any-push (m x) ys y in
-        let before : stored m ys x ≡ false = ap (λ (s : Record → Bool). s x) e in
-        let here = none x in
-        grind arith)
+  pub stored-none : (y : X) → ((x : Record) → keeps-layout x ≡ true → m x y ≡ false) → ((x : Record) → stored m ys x ≡ false) → (x : Record) → stored m (ys ++ y ∷ []) x ≡ false
+  stored-none y none before x =
+      let more = any-push (m x) ys y in
+      let was = before x in
+      let here = none x in
+      grind arith
+
+  -- all places hold no statement
+  pub stored-empty : ((x : Record) → stored m ys x ≡ false) → Emptiness (stored m ys) true
+  stored-empty none = record { none = λ _. none; some = λ e. absurd (true≢false e) }

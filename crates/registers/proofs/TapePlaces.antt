@@ -26,7 +26,7 @@ use Rattle.record.specs.Tapes.{places, place}
 use Rattle.record.specs.declared.Record.{Record}
 use Rattle.record.proofs.Packs.{length-packed, packs-alone}
 use Rattle.record.proofs.Same.{same-decides}
-use Rattle.register.specs.Sets.{Entered, nothing, added}
+use Rattle.register.specs.Sets.{Emptiness, Entered, added}
 use Rattle.register.proofs.Entering.{entered-new, adds-new}
 use Rattle.registers.specs.Stored.{any, stored}
 use Rattle.registers.specs.Tapes.{has-bytes, parts, on-tape, room-on, replaced, entered-on}
@@ -63,7 +63,7 @@ module _ (n i : ℕ) (b : List ℕ) where
 
   -- t tells whether the place i holds a statement
   module _ (t : Bool) (tells : Decides t ((x : Record) × Packs x (place i b))) where
-    pub statement-found : t ≡ true → i < n → Decides false (stored has-bytes (parts n b) ≡ nothing)
+    pub statement-found : t ≡ true → i < n → Emptiness (stored has-bytes (parts n b)) false
     statement-found e l =
         let h = tells .0 e in
         stored-some has-bytes (parts n b) i [] (h .0) (within l) (h .1 .layout) (ap (has-bytes (h .0)) (at l) ∙ holds (h .0) (h .1 .bytes))
@@ -75,8 +75,9 @@ module _ (n i : ℕ) (b : List ℕ) where
           | inr h ↦ h
         ]
 
-    pub no-statement : t ≡ false → stored has-bytes (parts i b) ≡ nothing → stored has-bytes (parts (i + 1) b) ≡ nothing
-    no-statement e before = ap (stored has-bytes) (parts-more i b) ∙ stored-none has-bytes (parts i b) (place i b) (never e) before
+    pub no-statement : t ≡ false → ((x : Record) → stored has-bytes (parts i b) x ≡ false) → (x : Record) → stored has-bytes (parts (i + 1) b) x ≡ false
+    no-statement e before x =
+        ap (λ (ps : List (List ℕ)). stored has-bytes ps x) (parts-more i b) ∙ stored-none has-bytes (parts i b) (place i b) (never e) before x
 
 pub put-replaces : (n : ℕ) (b y c : List ℕ) → y ≡ c → putMid (20 * n) (20 * n + 20 - 20 * n) b y ≡ replaced n b c
 put-replaces n b y c e =

@@ -4,30 +4,16 @@ use mathlib.Core.Bool.{Bool, true, false, _||_}
 use mathlib.Core.Logic.{inl, inr}
 use Prim.Native.Nat.{ℕ, _+_, _-_, _<_}
 use native.Mathlib.Omega.{arith}
-use Rattle.std.proofs.shelf.Tests.{both-ways, cases-bool, cond-true, cond-false, or-from, or-parts}
+use Rattle.std.proofs.shelf.Tests.{cases-bool, cond-true, cond-false}
 use Rattle.std.proofs.shelf.Ways.{tells}
-use Rattle.std.specs.Orderings.{Decides}
 use Rattle.std.specs.Results.{isOk}
 use Rattle.std.specs.declared.result.Result.{Result}
 use Rattle.std.specs.declared.result.Result.the-variants.{Ok, Err}
 use Rattle.refusal.specs.declared.Refusal.{Refusal}
 use Rattle.record.specs.Same.{same}
 use Rattle.record.specs.declared.Record.{Record}
-use Rattle.register.specs.Sets.{Set, nothing, added, adds, entering, Entered}
+use Rattle.register.specs.Sets.{Set, added, adds, entering, Entered}
 use Rattle.registers.specs.Sheets.{together}
-
--- whether both are empty, told by b of the first and by c of the second
-module _ (s t : Set) (b c : Bool) (d : Decides b (s ≡ nothing)) where
-  pub empty-if-second : b ≡ true → Decides c (t ≡ nothing) → Decides c (together s t ≡ nothing)
-  empty-if-second h e =
-      let none : (x : Record) → s x ≡ false = λ x. ap (λ (u : Set). u x) (d .0 h) in
-      ( λ i. fun-ext (λ x. or-from (s x) (t x) (none x) (ap (λ (u : Set). u x) (e .0 i)))
-      , λ i. e .1 (fun-ext (λ x. or-parts (s x) (t x) (ap (λ (u : Set). u x) i) .1)) )
-
-  pub not-empty-by-first : b ≡ false → Decides b (together s t ≡ nothing)
-  not-empty-by-first h =
-      ( λ i. absurd (both-ways b h i)
-      , λ i. d .1 (fun-ext (λ x. or-parts (s x) (t x) (ap (λ (u : Set). u x) i) .0)) )
 
 or-swap : (a b c : Bool) → ((a || c) || b) ≡ ((a || b) || c)
 or-swap a b c = grind arith
@@ -43,22 +29,22 @@ module _ (s t : Set) (m k : ℕ) (r : Record) where
         let answers = e .answer in
         elim (cases-bool (adds s m r)) [
           | inl h ↦
-            let adds-too : adds (together s t) (m + k) r ≡ true = grind (arith, tells) in
-            let less : m′ ≡ m - 1 = e .free ∙ cond-true (adds s m r) (m - 1) m h in
-            let some : 0 < m = grind (arith, tells) in
-            let sum : m′ + k ≡ m + k - 1 = omega (arith, less, some) in
-            record {
-              answer = grind (arith, tells);
-              held = ap (λ (u : Set). together u t) (e .held ∙ cond-true (adds s m r) (added s r) s h) ∙ fun-ext (λ x. or-swap (s x) (t x) (same r x)) ∙ sym (cond-true _ (added (together s t) r) (together s t) adds-too);
-              free = sum ∙ sym (cond-true _ (m + k - 1) (m + k) adds-too);
-            }
+              let adds-too : adds (together s t) (m + k) r ≡ true = grind (arith, tells) in
+              let less : m′ ≡ m - 1 = e .free ∙ cond-true (adds s m r) (m - 1) m h in
+              let some : 0 < m = grind (arith, tells) in
+              let sum : m′ + k ≡ m + k - 1 = omega (arith, less, some) in
+              record {
+                answer = grind (arith, tells);
+                held = ap (λ (u : Set). together u t) (e .held ∙ cond-true (adds s m r) (added s r) s h) ∙ fun-ext (λ x. or-swap (s x) (t x) (same r x)) ∙ sym (cond-true _ (added (together s t) r) (together s t) adds-too);
+                free = sum ∙ sym (cond-true _ (m + k - 1) (m + k) adds-too);
+              }
           | inr h ↦
-            let adds-not : adds (together s t) (m + k) r ≡ false = grind (arith, tells) in
-            record {
-              answer = grind (arith, tells);
-              held = ap (λ (u : Set). together u t) (e .held ∙ cond-false (adds s m r) (added s r) s h) ∙ sym (cond-false _ (added (together s t) r) (together s t) adds-not);
-              free = ap (λ (i : ℕ). i + k) (e .free ∙ cond-false (adds s m r) (m - 1) m h) ∙ sym (cond-false _ (m + k - 1) (m + k) adds-not);
-            }
+              let adds-not : adds (together s t) (m + k) r ≡ false = grind (arith, tells) in
+              record {
+                answer = grind (arith, tells);
+                held = ap (λ (u : Set). together u t) (e .held ∙ cond-false (adds s m r) (added s r) s h) ∙ sym (cond-false _ (added (together s t) r) (together s t) adds-not);
+                free = ap (λ (i : ℕ). i + k) (e .free ∙ cond-false (adds s m r) (m - 1) m h) ∙ sym (cond-false _ (m + k - 1) (m + k) adds-not);
+              }
         ]
 
     -- the first refuses it
@@ -71,20 +57,20 @@ module _ (s t : Set) (m k : ℕ) (r : Record) where
         let same-room : m′ ≡ m = e .free ∙ cond-false (adds s m r) (m - 1) m not-first in
         elim (cases-bool (adds t k r)) [
           | inl h ↦
-            let adds-too : adds (together s t) (m + k) r ≡ true = grind (arith, tells) in
-            let less : k′ ≡ k - 1 = f .free ∙ cond-true (adds t k r) (k - 1) k h in
-            let some : 0 < k = grind (arith, tells) in
-            let sum : m′ + k′ ≡ m + k - 1 = omega (arith, less, some, same-room) in
-            record {
-              answer = grind (arith, tells);
-              held = ap (λ (u : Set). together u t′) same-set ∙ ap (together s) (f .held ∙ cond-true (adds t k r) (added t r) t h) ∙ fun-ext (λ x. or-assoc (s x) (t x) (same r x)) ∙ sym (cond-true _ (added (together s t) r) (together s t) adds-too);
-              free = sum ∙ sym (cond-true _ (m + k - 1) (m + k) adds-too);
-            }
+              let adds-too : adds (together s t) (m + k) r ≡ true = grind (arith, tells) in
+              let less : k′ ≡ k - 1 = f .free ∙ cond-true (adds t k r) (k - 1) k h in
+              let some : 0 < k = grind (arith, tells) in
+              let sum : m′ + k′ ≡ m + k - 1 = omega (arith, less, some, same-room) in
+              record {
+                answer = grind (arith, tells);
+                held = ap (λ (u : Set). together u t′) same-set ∙ ap (together s) (f .held ∙ cond-true (adds t k r) (added t r) t h) ∙ fun-ext (λ x. or-assoc (s x) (t x) (same r x)) ∙ sym (cond-true _ (added (together s t) r) (together s t) adds-too);
+                free = sum ∙ sym (cond-true _ (m + k - 1) (m + k) adds-too);
+              }
           | inr h ↦
-            let adds-not : adds (together s t) (m + k) r ≡ false = grind (arith, tells) in
-            record {
-              answer = grind (arith, tells);
-              held = ap (λ (u : Set). together u t′) same-set ∙ ap (together s) (f .held ∙ cond-false (adds t k r) (added t r) t h) ∙ sym (cond-false _ (added (together s t) r) (together s t) adds-not);
-              free = ap (λ (i : ℕ). i + k′) same-room ∙ ap (λ (i : ℕ). m + i) (f .free ∙ cond-false (adds t k r) (k - 1) k h) ∙ sym (cond-false _ (m + k - 1) (m + k) adds-not);
-            }
+              let adds-not : adds (together s t) (m + k) r ≡ false = grind (arith, tells) in
+              record {
+                answer = grind (arith, tells);
+                held = ap (λ (u : Set). together u t′) same-set ∙ ap (together s) (f .held ∙ cond-false (adds t k r) (added t r) t h) ∙ sym (cond-false _ (added (together s t) r) (together s t) adds-not);
+                free = ap (λ (i : ℕ). i + k′) same-room ∙ ap (λ (i : ℕ). m + i) (f .free ∙ cond-false (adds t k r) (k - 1) k h) ∙ sym (cond-false _ (m + k - 1) (m + k) adds-not);
+              }
         ]

@@ -1,19 +1,17 @@
 //! Registers.
 mod places;
-mod table;
 mod sheet;
-mod spare;
+mod table;
 mod tape;
 
-pub use spare::SpareSheet;
-pub use spare::SpareSheetRegister;
+use refusal::Ground;
+use refusal::Refusal;
+pub use sheet::SpareSheet;
+pub use sheet::SpareSheetRegister;
 pub use table::Table;
 pub use table::TableRegister;
 pub use tape::Tape;
 pub use tape::TapeRegister;
-
-use refusal::Ground;
-use refusal::Refusal;
 
 const BREAKS_LAYOUT: Refusal = Refusal {
     ground: Ground::Layout,

@@ -1,12 +1,16 @@
 //! Places that are records, of which the first ones are used.
 ghost use mathlib.Core.Path.{_≡_};
-ghost use lib.ListN.{take};
+ghost use mathlib.Core.Bool.{true, false};
+ghost use Prim.Native.Nat.{_+_, _<_};
+ghost use lib.Dec.{eqb};
+ghost use lib.ListN.{length, take, set};
 ghost use denote.Ref.{now};
-ghost use Rattle.std.specs.Orderings.{Decides};
+ghost use Rattle.std.specs.declared.result.Result.the-variants.{Ok};
+ghost use Rattle.record.specs.Layout.{«keeps-layout»};
 ghost use Rattle.record.specs.Same.{same};
-ghost use Rattle.register.specs.Sets.{nothing};
+ghost use Rattle.register.specs.Sets.{Emptiness, Entered};
 ghost use Rattle.registers.specs.Stored.{any, stored};
-ghost use Rattle.registers.specs.Places.{«is-there»};
+ghost use Rattle.registers.specs.Places.{«is-there», «in-places», room};
 use record::Record;
 use record::RecordPartialEq;
 
@@ -15,6 +19,13 @@ pub(crate) fn first(places: &[Record], used: usize) -> &[Record]
     ensures { λ r. ⌜ now r ≡ take used (now (places .entry)) ⌝ }
 {
     &places[..used.min(places.len())]
+}
+
+// Whether there is no place after the first `used`.
+pub(crate) fn is_full(places: &[Record], used: usize) -> bool
+    ensures { λ b. ⌜ b ≡ eqb (room used (now (places .entry))) 0 ⌝ }
+{
+    used >= places.len()
 }
 
 // Whether two records are the same.
@@ -37,15 +48,15 @@ fn is_among(places: &[Record], r: &Record) -> bool
 }
 
 // Whether `r` is a statement, and one of the records.
-pub(crate) fn hold(places: &[Record], r: &Record) -> bool
+pub(crate) fn holds(places: &[Record], r: &Record) -> bool
     ensures { λ b. ⌜ b ≡ stored is-there (now (places .entry)) (now (r .entry)) ⌝ }
 {
     r.keeps_layout() && is_among(places, r)
 }
 
 // Whether none of the records is a statement.
-pub(crate) fn hold_nothing(places: &[Record]) -> bool
-    ensures { λ b. ⌜ Decides b (stored is-there (now (places .entry)) ≡ nothing) ⌝ }
+pub(crate) fn holds_nothing(places: &[Record]) -> bool
+    ensures { λ b. ⌜ Emptiness (stored is-there (now (places .entry))) b ⌝ }
 {
     for place in places {
         if place.keeps_layout() {
@@ -53,4 +64,15 @@ pub(crate) fn hold_nothing(places: &[Record]) -> bool
         }
     }
     true
+}
+
+// Writes `r`, a statement that is none of the first `used` records, to the place after them.
+pub(crate) fn put(places: &mut [Record], used: usize, r: &Record)
+    requires { ⌜ used < length (now places) ⌝ }
+    requires { ⌜ keeps-layout (now r) ≡ true ⌝ }
+    requires { ⌜ in-places used (now places) (now r) ≡ false ⌝ }
+    ensures places { λ _. ⌜ now (places .exit) ≡ set (now (places .entry)) used (now (r .entry)) ⌝ }
+    ensures entered { λ _. ⌜ Entered (in-places used (now (places .entry))) (room used (now (places .entry))) (now (r .entry)) (Ok tt) (in-places (used + 1) (now (places .exit))) (room (used + 1) (now (places .exit))) ⌝ }
+{
+    places[used] = *r;
 }

@@ -7,8 +7,9 @@ ghost use Rattle.registers.specs.Tables.{«table-held», «table-free»};
 use crate::BREAKS_LAYOUT;
 use crate::FULL;
 use crate::places::first;
-use crate::places::hold;
-use crate::places::hold_nothing;
+use crate::places::holds;
+use crate::places::holds_nothing;
+use crate::places::put;
 use record::Record;
 use refusal::Refusal;
 use register::Register;
@@ -40,11 +41,11 @@ pub impl<'a> Register for Table<'a> as TableRegister {
     ghost free = { table-free };
 
     fn ask(&self, r: &Record) -> bool {
-        hold(first(self.places, self.used), r)
+        holds(first(self.places, self.used), r)
     }
 
     fn is_empty(&self) -> bool {
-        hold_nothing(first(self.places, self.used))
+        holds_nothing(first(self.places, self.used))
     }
 
     /// A new statement goes to the lowest free place. Nothing else of the caller's memory changes.
@@ -62,8 +63,9 @@ pub impl<'a> Register for Table<'a> as TableRegister {
         if self.used >= self.places.len() {
             return Err(FULL);
         }
-        self.places[self.used] = *r;
-        self.used += 1;
+        let used = self.used;
+        put(self.places, used, r);
+        self.used = used + 1;
         Ok(())
     }
 }

@@ -7,7 +7,7 @@ ghost use Rattle.std.specs.shelf.Text.{sameBytes};
 ghost use Rattle.record.specs.Packed.{Packs};
 ghost use Rattle.record.specs.Tapes.{places, place};
 ghost use Rattle.record.specs.declared.Record.{Record};
-ghost use Rattle.register.specs.Sets.{Entered, nothing};
+ghost use Rattle.register.specs.Sets.{Emptiness, Entered, nothing};
 ghost use Rattle.registers.specs.Stored.{any};
 ghost use Rattle.registers.specs.Tapes.{«used-parts», «on-tape», replaced, «entered-on», «tape-held», «tape-free»};
 use crate::FULL;
@@ -69,7 +69,7 @@ fn has(tape: &[u8], used: usize, bytes: &[u8; SIZE]) -> bool
 
 // Whether none of the first `used` places holds a statement.
 fn holds_nothing(tape: &[u8], used: usize) -> bool
-    ensures { λ r. ⌜ Decides r (on-tape used (now (tape .entry)) ≡ nothing) ⌝ }
+    ensures { λ r. ⌜ Emptiness (on-tape used (now (tape .entry))) r ⌝ }
 {
     for i in 0..used.min(tape.len() / SIZE) {
         if part_holds(tape, i) {
@@ -80,6 +80,13 @@ fn holds_nothing(tape: &[u8], used: usize) -> bool
 }
 
 impl<'a> Tape<'a> {
+    // Whether one of the used places has just these bytes.
+    fn has(&self, bytes: &[u8; SIZE]) -> bool
+        ensures { λ r. ⌜ r ≡ any (λ y. sameBytes y (now (bytes .entry))) (used-parts (now (self .entry) .used) (now (now (self .entry) .bytes))) ⌝ }
+    {
+        has(self.bytes, self.used, bytes)
+    }
+
     /// An empty register over these bytes, whatever they hold. There is a free place for each
     /// whole record that fits; what is left over at the end is never written.
     pub fn new(bytes: &'a mut [u8]) -> Tape<'a>
@@ -100,7 +107,7 @@ pub impl<'a> Register for Tape<'a> as TapeRegister {
 
     fn ask(&self, r: &Record) -> bool {
         match r.pack() {
-            Ok(bytes) => has(self.bytes, self.used, &bytes),
+            Ok(bytes) => self.has(&bytes),
             Err(_) => false,
         }
     }
@@ -116,7 +123,7 @@ pub impl<'a> Register for Tape<'a> as TapeRegister {
         ensures lent { λ _. ⌜ name (now (self .exit) .bytes) ≡ name (now (self .entry) .bytes) ⌝ }
     {
         let bytes = r.pack()?;
-        if self.ask(r) {
+        if self.has(&bytes) {
             return Ok(());
         }
         if self.used >= self.bytes.len() / SIZE {

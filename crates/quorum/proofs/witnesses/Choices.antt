@@ -3,6 +3,6 @@ use Rattle.quorum.specs.Quorums.{said}
 use Rattle.quorum.proofs.Finding.{Found}
 use Rattle.quorum.proofs.witnesses.Given as given
 
-abbrev pub Inv-loop-signer : given.InvT-loop-signer
-Inv-loop-signer g l =
-    (l .count ≤ l .q) × Found (l .signer) (l .count) (said (g .R·Register .held (l .register)) (l .statement)) (l .found)
+abbrev pub Inv-loop-replica : given.InvT-loop-replica
+Inv-loop-replica g l =
+    (l .count ≤ l .q) × Found (l .replica) (l .count) (said (g .R·Register .held (l .register)) (l .statement)) (l .found)

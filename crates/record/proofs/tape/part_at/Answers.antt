@@ -21,4 +21,4 @@ pub returns : need.returns
 returns c =
     let b = c .args .tape .now in
     let i = c .args .position in
-    first (c .first-chunk .result) b _ i (c .if-position-tape .left) (take-rest b (20 * i)) (c .first-chunk .ensures .cases)
+    first (c .first-chunk .result) b _ i (omega (arith, c .if-position-tape .left)) (take-rest b (20 * i)) (c .first-chunk .ensures .cases)
