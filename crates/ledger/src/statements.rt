@@ -51,7 +51,10 @@ fn print_quorum<R: Register>(
     let said = count(register, statement, REPLICAS);
     print!(rt, "  {said} of {REPLICAS} replicas said it")?;
     match witnesses(register, statement, REPLICAS, QUORUM) {
-        Some([a, b, c, ..]) => println!(rt, "; witnesses of the quorum: {a}, {b}, {c}")?,
+        Some(found) => {
+            let (a, b, c) = (found[0], found[1], found[2]);
+            println!(rt, "; witnesses of the quorum: {a}, {b}, {c}")?
+        }
         None => println!(rt, ", no quorum")?,
     }
     Ok(())
