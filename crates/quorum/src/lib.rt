@@ -1,12 +1,9 @@
 //! Counting who said a statement, over every register. Quorums are counted here and nowhere else.
 ghost use mathlib.Core.Path.{_≡_};
 ghost use mathlib.Core.Bool.{true};
-ghost use Prim.Native.Nat.{_<_, _≤_};
-ghost use lib.Dec.{leb};
+ghost use Prim.Native.Nat.{_<_};
 ghost use denote.Ref.{now};
-ghost use Rattle.std.specs.Options.{Cases};
-ghost use Rattle.record.specs.Layout.{«keeps-layout»};
-ghost use Rattle.quorum.specs.Quorums.{«signed-by», said, count, Witnesses};
+ghost use Rattle.quorum.specs.Quorums.{«signed-by», said, count, quorum, Finds};
 use record::Record;
 use register::Register;
 
@@ -52,7 +49,7 @@ pub fn witnesses<R: Register>(
     n: u8,
     q: u8,
 ) -> Option<[u8; SIGNERS]>
-    ensures { λ r. ⌜ Cases r (count n (said (held (now (register .entry))) (now (statement .entry))) < q) (λ w. (q ≤ count n (said (held (now (register .entry))) (now (statement .entry)))) × Witnesses n q (said (held (now (register .entry))) (now (statement .entry))) w) ⌝ }
+    ensures { λ r. ⌜ Finds n q (said (held (now (register .entry))) (now (statement .entry))) r ⌝ }
 {
     let mut found = [0; SIGNERS];
     let mut count = 0;
@@ -74,7 +71,7 @@ pub fn witnesses<R: Register>(
 
 /// Whether at least `q` of the replicas below `n` said the statement.
 pub fn reached<R: Register>(register: &R, statement: &Record, n: u8, q: u8) -> bool
-    ensures { λ r. ⌜ r ≡ leb q (count n (said (held (now (register .entry))) (now (statement .entry)))) ⌝ }
+    ensures { λ r. ⌜ r ≡ quorum (held (now (register .entry))) n q (now (statement .entry)) ⌝ }
 {
     witnesses(register, statement, n, q).is_some()
 }

@@ -3,7 +3,7 @@ use mathlib.Core.Path.{_≡_, refl, sym, ap, subst, _∙_}
 use mathlib.Core.Bool.{Bool, true, false}
 use mathlib.Core.List.{List, [], _∷_, _++_}
 use mathlib.Core.Logic.{inl, inr}
-use Prim.Native.Nat.{ℕ, zero, suc, _+_, _*_, _-_, _/_, _<_, _≤_, min}
+use Prim.Native.Nat.{ℕ, zero, suc, _+_, _*_, _-_, _<_, _≤_, min}
 use native.Mathlib.Numerals.{add-one}
 use native.Mathlib.Omega.{arith}
 use borrow.Rule.Slice.PartMut.{putMid}
@@ -27,7 +27,7 @@ use Rattle.record.specs.declared.Record.{Record}
 use Rattle.record.proofs.Packs.{length-packed, packs-alone}
 use Rattle.record.proofs.Same.{same-decides}
 use Rattle.register.specs.Sets.{Emptiness, Entered, added}
-use Rattle.register.proofs.Entering.{entered-new, adds-new}
+use Rattle.register.proofs.Entering.{adds-new, entered-new}
 use Rattle.registers.specs.Stored.{any, stored}
 use Rattle.registers.specs.Tapes.{has-bytes, parts, on-tape, room-on, replaced, entered-on}
 use Rattle.registers.proofs.Stored.{any-push, any-at, stored-push, stored-some, stored-none}

@@ -1,4 +1,5 @@
-//! Registers.
+//! The registers: `Table` over lent records, `Tape` over lent bytes, and `SpareSheet` over any
+//! register. Each meets the contract of `register::Register`.
 mod places;
 mod sheet;
 mod table;

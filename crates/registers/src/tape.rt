@@ -1,6 +1,5 @@
 ghost use mathlib.Core.Path.{_≡_};
 ghost use Prim.Native.Nat.{_<_};
-ghost use lib.ListN.{length};
 ghost use denote.Ref.{now, name};
 ghost use Rattle.std.specs.Orderings.{Decides};
 ghost use Rattle.std.specs.shelf.Text.{sameBytes};
@@ -56,7 +55,7 @@ fn put(tape: &mut [u8], i: usize, bytes: &[u8; SIZE])
 }
 
 // Whether one of the first `used` places has just these bytes.
-fn has(tape: &[u8], used: usize, bytes: &[u8; SIZE]) -> bool
+fn some_part_is(tape: &[u8], used: usize, bytes: &[u8; SIZE]) -> bool
     ensures { λ r. ⌜ r ≡ any (λ y. sameBytes y (now (bytes .entry))) (used-parts used (now (tape .entry))) ⌝ }
 {
     for i in 0..used.min(tape.len() / SIZE) {
@@ -68,7 +67,7 @@ fn has(tape: &[u8], used: usize, bytes: &[u8; SIZE]) -> bool
 }
 
 // Whether none of the first `used` places holds a statement.
-fn holds_nothing(tape: &[u8], used: usize) -> bool
+fn no_part_holds(tape: &[u8], used: usize) -> bool
     ensures { λ r. ⌜ Emptiness (on-tape used (now (tape .entry))) r ⌝ }
 {
     for i in 0..used.min(tape.len() / SIZE) {
@@ -84,7 +83,7 @@ impl<'a> Tape<'a> {
     fn has(&self, bytes: &[u8; SIZE]) -> bool
         ensures { λ r. ⌜ r ≡ any (λ y. sameBytes y (now (bytes .entry))) (used-parts (now (self .entry) .used) (now (now (self .entry) .bytes))) ⌝ }
     {
-        has(self.bytes, self.used, bytes)
+        some_part_is(self.bytes, self.used, bytes)
     }
 
     /// An empty register over these bytes, whatever they hold. There is a free place for each
@@ -113,7 +112,7 @@ pub impl<'a> Register for Tape<'a> as TapeRegister {
     }
 
     fn is_empty(&self) -> bool {
-        holds_nothing(self.bytes, self.used)
+        no_part_holds(self.bytes, self.used)
     }
 
     /// A new statement goes to the lowest free place. Nothing else of the caller's memory changes.

@@ -3,7 +3,7 @@ use mathlib.Core.Bool.{false}
 use Rattle.record.specs.declared.Record.{Record}
 use Rattle.registers.specs.Stored.{stored}
 use Rattle.registers.specs.Tapes.{has-bytes, parts}
-use Rattle.registers.proofs.tape.holds_nothing.Given as given
+use Rattle.registers.proofs.tape.no_part_holds.Given as given
 
 abbrev pub Inv-loop-i : given.InvT-loop-i
 Inv-loop-i l = (x : Record) → stored has-bytes (parts (l .i) (l .tape)) x ≡ false
