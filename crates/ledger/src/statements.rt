@@ -15,7 +15,8 @@ const REPLICAS: u8 = 4;
 
 const QUORUM: u8 = 3;
 
-fn answer_of(signer: u8, result: u64) -> Record {
+/// The statement that a replica answered `result` for slot 1 of view 0.
+pub fn answer_of(signer: u8, result: u64) -> Record {
     Record {
         kind: kind::REPLY,
         signer,

@@ -1,4 +1,5 @@
 //! A statement as 20 bytes, and a tape of two of them.
+use crate::statements::answer_of;
 use record::Part;
 use record::Reader;
 use record::ReaderIterator;
@@ -76,17 +77,7 @@ pub fn pack_and_read(rt: &LibcRuntime, result: u64) -> Result<(), AnyError> {
         rt,
         "Statement: replica 2 answers {result} for slot 1 of view 0"
     )?;
-    let statement = Record {
-        kind: kind::REPLY,
-        signer: 2,
-        view: 0,
-        last: 0,
-        slot: 1,
-        verdict: 0,
-        word: 0,
-        result,
-    };
-    let bytes = statement.pack()?;
+    let bytes = answer_of(2, result).pack()?;
     print_bytes(rt, &bytes)?;
     println!(
         rt,
