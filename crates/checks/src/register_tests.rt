@@ -17,9 +17,9 @@ use registers::SpareSheet;
 use registers::SpareSheetRegister;
 use registers::Table;
 use registers::TableRegister;
-use registers::Tape;
-use registers::TapeRegister;
 use std::test::*;
+use tape::Tape;
+use tape::TapeRegister;
 
 fn statement(kind: u8, signer: u8, slot: u8) -> Record {
     Record {

@@ -8,7 +8,20 @@ ghost use Rattle.record.specs.Layout.{«keeps-layout»};
 ghost use Rattle.record.specs.declared.Record.{Record};
 ghost use Rattle.register.specs.Sets.{Emptiness, Entered};
 use record::Record;
+use refusal::Ground;
 use refusal::Refusal;
+
+/// How a register refuses a record that breaks the layout.
+pub const BREAKS_LAYOUT: Refusal = Refusal {
+    ground: Ground::Layout,
+    place: 0,
+};
+
+/// How a register refuses a new statement where no place is free.
+pub const FULL: Refusal = Refusal {
+    ground: Ground::RegisterFull,
+    place: 0,
+};
 
 /// A register. Its meaning is the set of statements that it holds, `held`, and the number of its
 /// free places, `free`.

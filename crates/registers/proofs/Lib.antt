@@ -1,4 +1,2 @@
-pub mod Stored
 pub mod RecordPlaces
-pub mod TapePlaces
 pub mod Together

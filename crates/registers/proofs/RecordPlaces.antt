@@ -15,9 +15,9 @@ use Rattle.record.specs.declared.Record.{Record}
 use Rattle.record.proofs.Same.{same-refl, same-decides}
 use Rattle.register.specs.Sets.{Emptiness, Entered, added}
 use Rattle.register.proofs.Entering.{entered-new}
-use Rattle.registers.specs.Stored.{stored}
+use Rattle.register.specs.Stored.{stored}
 use Rattle.registers.specs.Places.{is-there, in-places, room}
-use Rattle.registers.proofs.Stored.{stored-push, stored-some, stored-none, stored-empty}
+use Rattle.register.proofs.Stored.{stored-push, stored-some, stored-none, stored-empty}
 
 pub take-min : (n k : ℕ) (ys : List Record) → k ≡ min n (length ys) → take k ys ≡ take n ys
 take-min n k ys e =

@@ -10,7 +10,7 @@ use lib.ListN.{length, take, set}
 use Rattle.record.specs.Same.{same}
 use Rattle.record.specs.declared.Record.{Record}
 use Rattle.register.specs.Sets.{Set, adds}
-use Rattle.registers.specs.Stored.{stored}
+use Rattle.register.specs.Stored.{stored}
 
 abbrev pub is-there : Record → Record → Bool
 is-there x y = same y x

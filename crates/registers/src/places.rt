@@ -9,7 +9,7 @@ ghost use Rattle.std.specs.declared.result.Result.the-variants.{Ok};
 ghost use Rattle.record.specs.Layout.{«keeps-layout»};
 ghost use Rattle.record.specs.Same.{same};
 ghost use Rattle.register.specs.Sets.{Emptiness, Entered};
-ghost use Rattle.registers.specs.Stored.{any, stored};
+ghost use Rattle.register.specs.Stored.{any, stored};
 ghost use Rattle.registers.specs.Places.{«is-there», «in-places», room};
 use record::Record;
 use record::RecordPartialEq;

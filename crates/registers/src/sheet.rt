@@ -3,8 +3,6 @@ ghost use Prim.Native.Nat.{_+_};
 ghost use denote.Ref.{now};
 ghost use Rattle.register.specs.Sets.{Entered, nothing};
 ghost use Rattle.registers.specs.Sheets.{«sheet-held», «sheet-free», «sheet-after», together, «Below-first»};
-use crate::BREAKS_LAYOUT;
-use crate::FULL;
 use crate::places::first;
 use crate::places::holds;
 use crate::places::holds_nothing;
@@ -12,6 +10,8 @@ use crate::places::is_full;
 use crate::places::put;
 use record::Record;
 use refusal::Refusal;
+use register::BREAKS_LAYOUT;
+use register::FULL;
 use register::Register;
 
 const PLACES: usize = 16;

@@ -4,14 +4,14 @@ ghost use denote.Ref.{now, name};
 ghost use Rattle.register.specs.Sets.{Entered, nothing};
 ghost use Rattle.registers.specs.Places.{entered};
 ghost use Rattle.registers.specs.Tables.{«table-held», «table-free»};
-use crate::BREAKS_LAYOUT;
-use crate::FULL;
 use crate::places::first;
 use crate::places::holds;
 use crate::places::holds_nothing;
 use crate::places::put;
 use record::Record;
 use refusal::Refusal;
+use register::BREAKS_LAYOUT;
+use register::FULL;
 use register::Register;
 
 /// A register over records that the caller lends. It is scanned and written in place.

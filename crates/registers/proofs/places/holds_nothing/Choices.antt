@@ -2,7 +2,7 @@ use mathlib.Core.Path.{_≡_}
 use mathlib.Core.Bool.{false}
 use lib.ListN.{take}
 use Rattle.record.specs.declared.Record.{Record}
-use Rattle.registers.specs.Stored.{stored}
+use Rattle.register.specs.Stored.{stored}
 use Rattle.registers.specs.Places.{is-there}
 use Rattle.registers.proofs.places.holds_nothing.Given as given
 

@@ -1,5 +1,5 @@
 use borrow.Author.Needs.{needs}
-use Rattle.registers.proofs.Stored.{any-at, any-more, any-all}
+use Rattle.register.proofs.Stored.{any-at, any-more, any-all}
 use Rattle.registers.proofs.places.is_among.Needs as need
 
 pub returns-then-same : need.returns-then-same

@@ -1,7 +1,7 @@
 use mathlib.Core.Path.{_≡_}
 use mathlib.Core.Bool.{false}
 use lib.ListN.{take}
-use Rattle.registers.specs.Stored.{any}
+use Rattle.register.specs.Stored.{any}
 use Rattle.registers.specs.Places.{is-there}
 use Rattle.registers.proofs.places.is_among.Given as given
 

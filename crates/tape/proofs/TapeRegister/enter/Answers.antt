@@ -3,9 +3,9 @@ use mathlib.Core.Bool.{true, false}
 use borrow.Author.Needs.{needs}
 use Rattle.record.specs.Layout.{keeps-layout}
 use Rattle.record.specs.Packed.{packed}
-use Rattle.registers.specs.Tapes.{replaced, tape-held}
-use Rattle.registers.proofs.TapePlaces.{put-enters, put-is-entered}
-use Rattle.registers.proofs.tape.TapeRegister.enter.Needs as need
+use Rattle.tape.specs.Tapes.{replaced, tape-held}
+use Rattle.tape.proofs.Places.{put-enters, put-is-entered}
+use Rattle.tape.proofs.TapeRegister.enter.Needs as need
 
 pub returns : need.returns
 returns c =

@@ -1,7 +1,7 @@
 use native.Mathlib.Omega.{arith}
 use borrow.Author.Needs.{needs}
-use Rattle.registers.proofs.TapePlaces.{statement-found, no-statement}
-use Rattle.registers.proofs.tape.no_part_holds.Needs as need
+use Rattle.tape.proofs.Places.{statement-found, no-statement}
+use Rattle.tape.proofs.no_part_holds.Needs as need
 
 pub returns-then-part-holds : need.returns-then-part-holds
 returns-then-part-holds c =

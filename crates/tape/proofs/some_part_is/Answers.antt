@@ -1,6 +1,6 @@
 use borrow.Author.Needs.{needs}
-use Rattle.registers.proofs.TapePlaces.{part-found, part-passed}
-use Rattle.registers.proofs.tape.some_part_is.Needs as need
+use Rattle.tape.proofs.Places.{part-found, part-passed}
+use Rattle.tape.proofs.some_part_is.Needs as need
 
 pub returns-then-part-is : need.returns-then-part-is
 returns-then-part-is c = search (needs, part-found)

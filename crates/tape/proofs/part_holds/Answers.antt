@@ -1,6 +1,6 @@
 use Rattle.std.proofs.shelf.Ways.{decides-at}
-use Rattle.registers.proofs.TapePlaces.{unpacked}
-use Rattle.registers.proofs.tape.part_holds.Needs as need
+use Rattle.tape.proofs.Places.{unpacked}
+use Rattle.tape.proofs.part_holds.Needs as need
 
 pub returns-in-Some : need.returns-in-Some
 returns-in-Some c =

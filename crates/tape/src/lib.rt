@@ -1,3 +1,4 @@
+//! A register over bytes that the caller lends.
 ghost use mathlib.Core.Path.{_≡_};
 ghost use Prim.Native.Nat.{_<_};
 ghost use denote.Ref.{now, name};
@@ -7,13 +8,13 @@ ghost use Rattle.record.specs.Packed.{Packs};
 ghost use Rattle.record.specs.Tapes.{places, place};
 ghost use Rattle.record.specs.declared.Record.{Record};
 ghost use Rattle.register.specs.Sets.{Emptiness, Entered, nothing};
-ghost use Rattle.registers.specs.Stored.{any};
-ghost use Rattle.registers.specs.Tapes.{«used-parts», «on-tape», replaced, «entered-on», «tape-held», «tape-free»};
-use crate::FULL;
+ghost use Rattle.register.specs.Stored.{any};
+ghost use Rattle.tape.specs.Tapes.{«used-parts», «on-tape», replaced, «entered-on», «tape-held», «tape-free»};
 use record::Record;
 use record::SIZE;
 use record::part_at;
 use refusal::Refusal;
+use register::FULL;
 use register::Register;
 
 /// A register over bytes that the caller lends: records are packed into it end to end.

@@ -28,9 +28,9 @@ use Rattle.record.proofs.Packs.{length-packed, packs-alone}
 use Rattle.record.proofs.Same.{same-decides}
 use Rattle.register.specs.Sets.{Emptiness, Entered, added}
 use Rattle.register.proofs.Entering.{adds-new, entered-new}
-use Rattle.registers.specs.Stored.{any, stored}
-use Rattle.registers.specs.Tapes.{has-bytes, parts, on-tape, room-on, replaced, entered-on}
-use Rattle.registers.proofs.Stored.{any-push, any-at, stored-push, stored-some, stored-none}
+use Rattle.register.specs.Stored.{any, stored}
+use Rattle.tape.specs.Tapes.{has-bytes, parts, on-tape, room-on, replaced, entered-on}
+use Rattle.register.proofs.Stored.{any-push, any-at, stored-push, stored-some, stored-none}
 
 -- the bytes y, which are p, were compared with c
 pub compared : (t : Bool) (y p c : List ℕ) → y ≡ p → Decides t (y ≡ c) → t ≡ sameBytes p c

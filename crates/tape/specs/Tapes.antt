@@ -19,8 +19,8 @@ use Rattle.record.specs.Packed.{packed}
 use Rattle.record.specs.Tapes.{places, place}
 use Rattle.record.specs.declared.Record.{Record}
 use Rattle.register.specs.Sets.{Set, adds}
-use Rattle.registers.specs.Stored.{stored}
-use Rattle.registers.specs.declared.tape.Tape.{Tape}
+use Rattle.register.specs.Stored.{stored}
+use Rattle.tape.specs.declared.Tape.{Tape}
 
 abbrev pub has-bytes : Record → List ℕ → Bool
 has-bytes x y = sameBytes y (packed x)

@@ -11,8 +11,8 @@ use Rattle.record.specs.Layout.{keeps-layout}
 use Rattle.record.specs.Same.{same}
 use Rattle.record.specs.declared.Record.{Record}
 use Rattle.record.proofs.Same.{same-decides}
 use Rattle.register.specs.Sets.{Emptiness, added}
-use Rattle.registers.specs.Stored.{any, stored}
+use Rattle.register.specs.Stored.{any, stored}
 
 or-assoc : (a b c : Bool) → ((a || b) || c) ≡ (a || (b || c))
 or-assoc a b c = grind arith
