@@ -3,8 +3,6 @@ use quorum::count;
 use quorum::reached;
 use quorum::witnesses;
 use record::Record;
-use record::RecordDebug;
-use record::RecordPartialEq;
 use record::kind;
 use refusal::Ground;
 use refusal::GroundDebug;

@@ -1,2 +1,3 @@
+pub mod Tests
 pub mod Entering
 pub mod Stored

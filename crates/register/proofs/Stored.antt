@@ -13,12 +13,7 @@ use Rattle.record.specs.declared.Record.{Record}
 use Rattle.record.proofs.Same.{same-decides}
 use Rattle.register.specs.Sets.{Emptiness, added}
 use Rattle.register.specs.Stored.{any, stored}
-
-or-assoc : (a b c : Bool) → ((a || b) || c) ≡ (a || (b || c))
-or-assoc a b c = grind arith
-
-or-none : (a : Bool) → (a || false) ≡ a
-or-none a = grind arith
+use Rattle.register.proofs.Tests.{or-none, or-assoc}
 
 pub any-push : {X : Type 0} (p : X → Bool) (ys : List X) (y : X) → any p (ys ++ y ∷ []) ≡ (any p ys || p y)
 any-push p [] y = or-none (p y)

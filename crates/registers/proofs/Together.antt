@@ -1,6 +1,6 @@
 -- Two registers as one: entering goes on to the second where the first refuses.
 use mathlib.Core.Path.{_≡_, sym, ap, fun-ext, _∙_}
-use mathlib.Core.Bool.{Bool, true, false, _||_}
+use mathlib.Core.Bool.{true, false}
 use mathlib.Core.Logic.{inl, inr}
 use Prim.Native.Nat.{ℕ, _+_}
 use native.Mathlib.Omega.{arith}
@@ -12,16 +12,14 @@ use Rattle.std.specs.declared.result.Result.the-variants.{Ok}
 use Rattle.refusal.specs.declared.Refusal.{Refusal}
 use Rattle.record.specs.Same.{same}
 use Rattle.record.specs.declared.Record.{Record}
-use Rattle.register.specs.Sets.{Set, adds, entering, held-after, free-after, Entered}
+use Rattle.register.specs.Sets.{Set, nothing, adds, entering, held-after, free-after, Entered}
 use Rattle.register.proofs.Entering.{entered-adding, entered-keeping, what-is-added, what-is-kept}
+use Rattle.register.proofs.Tests.{or-none, or-assoc, or-swap}
 use Rattle.registers.specs.Sheets.{sheet-held, sheet-after, together, Below-first}
 use Rattle.registers.specs.declared.sheet.Sheet.{Sheet}
 
-or-swap : (a b c : Bool) → ((a || c) || b) ≡ ((a || b) || c)
-or-swap a b c = grind arith
-
-or-assoc : (a b c : Bool) → (a || (b || c)) ≡ ((a || b) || c)
-or-assoc a b c = grind arith
+pub together-nothing : (s t : Set) → t ≡ nothing → together s t ≡ s
+together-nothing s t e = ap (together s) e ∙ fun-ext (λ x. or-none (s x))
 
 -- r is entered into s with m free places, and t, which does not hold it, has k
 module _ (s t : Set) (m k : ℕ) (r : Record) (s′ : Set) (m′ : ℕ) (a : Result (Unit {0}) Refusal) (e : Entered s m r a s′ m′) (absent : t r ≡ false) where
@@ -50,7 +48,7 @@ module _ (s t : Set) (m k : ℕ) (r : Record) (s′ : Set) (m′ : ℕ) (a : Res
       elim (cases-bool (adds t k r)) [
         | inl h ↦
             let w = what-is-added t k r b t′ k′ f h in
-            let held = first ∙ ap (together s) (w .0) ∙ fun-ext (λ x. or-assoc (s x) (t x) (same r x)) in
+            let held = first ∙ ap (together s) (w .0) ∙ fun-ext (λ x. sym (or-assoc (s x) (t x) (same r x))) in
             entered-adding (together s t) (m + k) r b (together s′ t′) (m′ + k′) (grind (arith, tells)) (grind (arith, tells)) held (omega (arith, v .1, w .1))
         | inr h ↦
             let w = what-is-kept t k r b t′ k′ f h in

@@ -89,11 +89,12 @@ pub struct SpareSheet<R> {
 }
 
 impl<R: Register> SpareSheet<R> {
-    /// Lays an empty sheet over a register.
+    /// Lays an empty sheet over a register: the set stays, and there are 16 free places more.
     pub fn new(below: R) -> SpareSheet<R>
+        ensures held { λ s. ⌜ together (R·Register .held (s .below)) (sheet-held (s .sheet)) ≡ R·Register .held below ⌝ }
+        ensures free { λ s. ⌜ R·Register .free (s .below) + sheet-free (s .sheet) ≡ R·Register .free below + 16 ⌝ }
         ensures below { λ s. ⌜ s .below ≡ below ⌝ }
-        ensures held { λ s. ⌜ sheet-held (s .sheet) ≡ nothing ⌝ }
-        ensures free { λ s. ⌜ sheet-free (s .sheet) ≡ 16 ⌝ }
+        ensures sheet { λ s. ⌜ sheet-held (s .sheet) ≡ nothing ⌝ }
     {
         SpareSheet {
             below,
