@@ -3,6 +3,8 @@ use quorum::count;
 use quorum::reached;
 use quorum::witnesses;
 use record::Record;
+use record::RecordDebug;
+use record::RecordPartialEq;
 use record::kind;
 use refusal::Ground;
 use refusal::GroundDebug;
@@ -105,6 +107,19 @@ fn every_register_answers_alike() -> Result<(), Fail> {
         &mut SpareSheet::new(SpareSheet::new(Table::new(&mut []))),
         31,
     )
+}
+
+#[test]
+fn one_place_of_the_callers_memory_changes() -> Result<(), Fail> {
+    let said = statement(kind::REPLY, 2, 1);
+    let junk = statement(0, 9, 9);
+    let mut places = [junk; 2];
+    check_eq(Table::new(&mut places).enter(&said), Ok(()))?;
+    check_eq(places, [said, junk])?;
+    let mut bytes = [0xff; 59];
+    check_eq(Tape::new(&mut bytes).enter(&said), Ok(()))?;
+    check_eq(&bytes[..20], &said.pack()?[..])?;
+    check_eq(&bytes[20..], &[0xff; 39][..])
 }
 
 #[test]
