@@ -5,6 +5,7 @@ use record::Record;
 use record::kind;
 use refusal::RefusalDisplay;
 use register::Register;
+use register::insert;
 use registers::SpareSheet;
 use registers::SpareSheetRegister;
 use registers::Table;
@@ -35,10 +36,9 @@ fn enter<R: Register>(
     statement: &Record,
 ) -> Result<(), AnyError> {
     let signer = statement.signer;
-    let held = register.ask(statement);
-    match register.enter(statement) {
-        Ok(()) if held => println!(rt, "  replica {signer}: held already, no place is used")?,
-        Ok(()) => println!(rt, "  replica {signer}: entered")?,
+    match insert(register, statement) {
+        Ok(true) => println!(rt, "  replica {signer}: entered")?,
+        Ok(false) => println!(rt, "  replica {signer}: held already, no place is used")?,
         Err(refusal) => println!(rt, "  replica {signer}: {refusal}")?,
     }
     Ok(())

@@ -1,3 +1,4 @@
 pub mod Tests
 pub mod Entering
 pub mod Stored
+pub mod Inserting

@@ -1,2 +1,3 @@
 pub mod Sets
 pub mod Stored
+pub mod Insertions

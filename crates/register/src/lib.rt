@@ -1,12 +1,14 @@
 //! A register holds a set of statements and has a number of free places. This is what it means to
 //! be one; how statements are stored is each register's own.
 ghost use mathlib.Core.Path.{_≡_};
-ghost use mathlib.Core.Bool.{Bool, true};
+ghost use mathlib.Core.Bool.{Bool, true, not};
 ghost use Prim.Native.Nat.{ℕ};
 ghost use denote.Ref.{now};
+ghost use Rattle.std.specs.Results.{isOk};
 ghost use Rattle.record.specs.Layout.{«keeps-layout»};
 ghost use Rattle.record.specs.declared.Record.{Record};
 ghost use Rattle.register.specs.Sets.{Emptiness, Entered};
+ghost use Rattle.register.specs.Insertions.{Granted, Inserted};
 use record::Record;
 use refusal::Ground;
 use refusal::Refusal;
@@ -44,4 +46,21 @@ pub trait Register {
     /// refused. A refusal changes nothing.
     fn enter(&mut self, r: &Record) -> Result<(), Refusal>
         ensures { λ a. ⌜ Entered (held (now (self .entry))) (free (now (self .entry))) (now (r .entry)) a (held (now (self .exit))) (free (now (self .exit))) ⌝ };
+}
+
+// Enters `r`. What a grant comes to is told by members and places.
+fn enter<R: Register>(register: &mut R, r: &Record) -> Result<(), Refusal>
+    ensures entered { λ a. ⌜ Entered (held (now (register .entry))) (free (now (register .entry))) (now (r .entry)) a (held (now (register .exit))) (free (now (register .exit))) ⌝ }
+    ensures granted { λ a. ⌜ (isOk a ≡ true → Granted (held (now (register .entry))) (free (now (register .entry))) (now (r .entry)) (not (held (now (register .entry)) (now (r .entry)))) (held (now (register .exit))) (free (now (register .exit)))) ⌝ }
+{
+    register.enter(r)
+}
+
+/// Enters `r`, and answers whether it was new to the register.
+pub fn insert<R: Register>(register: &mut R, r: &Record) -> Result<bool, Refusal>
+    ensures { λ a. ⌜ Inserted (held (now (register .entry))) (free (now (register .entry))) (now (r .entry)) a (held (now (register .exit))) (free (now (register .exit))) ⌝ }
+{
+    let known = register.ask(r);
+    enter(register, r)?;
+    Ok(!known)
 }

@@ -1,6 +1,6 @@
 -- Two registers as one: entering goes on to the second where the first refuses.
 use mathlib.Core.Path.{_≡_, sym, ap, fun-ext, _∙_}
-use mathlib.Core.Bool.{true, false}
+use mathlib.Core.Bool.{true, false, cond}
 use mathlib.Core.Logic.{inl, inr}
 use Prim.Native.Nat.{ℕ, _+_}
 use native.Mathlib.Omega.{arith}
@@ -58,18 +58,17 @@ module _ (s t : Set) (m k : ℕ) (r : Record) (s′ : Set) (m′ : ℕ) (a : Res
 
 -- how r was entered, which the sheet t did not hold
 module _ (s s′ : Set) (m m′ : ℕ) (r : Record) (a : Result (Unit {0}) Refusal) (e : Entered s m r a s′ m′) (t : Sheet) (absent : sheet-held t r ≡ false) where
-  pub granted-below : isOk a ≡ true → Below-first s m t r s′ m′ t
-  granted-below ok =
+  below : (t′ : Sheet) → t′ ≡ cond (isOk (entering s m r)) t (sheet-after t r) → Below-first s m t r s′ m′ t′
+  below t′ sheet =
       record {
         held = e .held ∙ sym (cond-false (sheet-held t r) s (held-after s m r) absent);
         free = e .free ∙ sym (cond-false (sheet-held t r) m (free-after s m r) absent);
-        sheet = sym (cond-true (isOk (entering s m r)) t (sheet-after t r) (sym (ap isOk (e .answer)) ∙ ok));
+        sheet = sheet;
       }
+
+  pub granted-below : isOk a ≡ true → Below-first s m t r s′ m′ t
+  granted-below ok = below t (sym (cond-true (isOk (entering s m r)) t (sheet-after t r) (sym (ap isOk (e .answer)) ∙ ok)))
 
   pub refused-below : isOk a ≡ false → (t′ : Sheet) → t′ ≡ sheet-after t r → Below-first s m t r s′ m′ t′
   refused-below refused t′ after =
-      record {
-        held = e .held ∙ sym (cond-false (sheet-held t r) s (held-after s m r) absent);
-        free = e .free ∙ sym (cond-false (sheet-held t r) m (free-after s m r) absent);
-        sheet = after ∙ sym (cond-false (isOk (entering s m r)) t (sheet-after t r) (sym (ap isOk (e .answer)) ∙ refused));
-      }
+      below t′ (after ∙ sym (cond-false (isOk (entering s m r)) t (sheet-after t r) (sym (ap isOk (e .answer)) ∙ refused)))
