@@ -1,4 +1,6 @@
 //! The allotment service: the balances of sixteen accounts, granted to and drawn from.
+#![tactic(auto)]
+
 ghost use Rattle.std.specs.Prelude.{◌≡◌, ℕ, List};
 ghost use Rattle.allotment.specs.Balances.{no_balances, allotment_next, allotment_answer};
 

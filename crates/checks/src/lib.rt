@@ -1,5 +1,7 @@
 //! The worked checks: examples with stated figures, proved of the definitions that the contracts
 //! of records and services cite, and run.
+#![tactic(auto)]
+
 ghost use Rattle.std.specs.Prelude.{◌≡◌, [], ◌∷◌};
 ghost use Rattle.checks.specs.Examples.{flow_after};
 ghost use Rattle.checks.specs.Worked.{WorkedChecks, worked_run};

@@ -1,6 +1,7 @@
 //! Runs one task of the basin ledger from beginning to end, and prints each step: a reading at a
 //! gauge, draws from an allotment, a statement of the reading, packed and read back, and the
 //! statements of four replicas in a register.
+#![tactic(auto)]
 
 mod gauge;
 mod statements;

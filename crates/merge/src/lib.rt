@@ -1,4 +1,6 @@
 //! Checking the picks of a view change, and merging them, over every register.
+#![tactic(auto)]
+
 mod backing;
 mod base;
 mod line;

@@ -1,1 +1,2 @@
 //! The rules of a bench, and the law that every life of it keeps.
+#![tactic(auto)]

@@ -1,6 +1,8 @@
 //! Counting who said a statement, over every register. Quorums are counted here and nowhere else.
+#![tactic(auto)]
+
 ghost use Rattle.std.specs.Prelude.{◌≡◌, ◌<◌, true};
-ghost use Rattle.quorum.specs.Quorums.{«signed_by», said, count, quorum, Finds};
+ghost use Rattle.quorum.specs.Quorums.{signed_by, said, count, quorum, Finds};
 
 use record::Record;
 use register::Register;

@@ -1,4 +1,6 @@
 //! The rating service: rating curves, and the flow that they give at a stage.
+#![tactic(auto)]
+
 mod curve;
 mod operation;
 mod service;

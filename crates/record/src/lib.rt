@@ -1,4 +1,6 @@
 //! Statements as records, and records as 20 bytes.
+#![tactic(auto)]
+
 pub mod kind;
 mod layout;
 mod pack;

@@ -2,7 +2,7 @@ ghost use Rattle.std.specs.Prelude.{◌≡◌, ◌+◌, ◌%◌, ◌<◌, ◌≤
 ghost use Rattle.record.specs.Bytes.{be};
 ghost use Rattle.record.specs.Layout.{Layout};
 ghost use Rattle.record.specs.Packed.{packed, packing, Packs, Unpacks};
-ghost use Rattle.record.specs.Heads.{«head_of», with_head};
+ghost use Rattle.record.specs.Heads.{head_of, with_head};
 
 use crate::{Record, SIZE};
 use refusal::{Ground, Refusal};

@@ -30,7 +30,7 @@ ground_number ViewStartMissing = 16
 ground_number SlotsExhausted = 17
 ground_number RegisterFull = 18
 
-abbrev pub refused : Ground → ℕ → Refusal
+abbrev pub refused : (ground : Ground) (place : ℕ) → Refusal
 refused g p = record { ground = g; place = p }
 
 abbrev pub text : Refusal → List ℕ

@@ -1,9 +1,11 @@
 //! Why a call is refused: a ground, which has a number, and a place.
+#![tactic(auto)]
+
 ghost use Rattle.std.specs.Prelude.{◌≡◌, Some, Decides, ◌==◌};
 ghost use Rattle.refusal.specs.Grounds.{ground_number, text};
 ghost use Rattle.std.specs.Cmp.Rules.{comparing};
 ghost use Rattle.std.proofs.Common.{rules};
-ghost use Rattle.std.specs.Cmp as Keys;
+ghost use Rattle.std.specs.Ordering.{on};
 
 use std::error::Error;
 use std::fmt;
@@ -65,11 +67,14 @@ fn same_number(a: Ground, b: Ground) -> bool
 }
 
 impl PartialEq for Ground {
-    ghost equals = { λ a b r. Decides r (a ≡ b) };
+    ghost eq = { on ground_number ◌==◌ };
 
-    ghost laws = { Keys.partial_equiv_from_equiv (Prim.search (comparing, rules)) };
+    ghost laws = { Prim.search (comparing, rules) };
 
-    fn eq(&self, other: &Ground) -> bool {
+    fn eq(&self, other: &Ground) -> bool
+        ensures value { result ≡ (ground_number self.now == ground_number other.now) }
+        ensures meaning { Decides result (self.now ≡ other.now) }
+    {
         same_number(*self, *other)
     }
 }

@@ -1,5 +1,7 @@
 //! A register holds a set of statements and has a number of free places. This is what it means to
 //! be one; how statements are stored is each register's own.
+#![tactic(auto)]
+
 ghost use Rattle.std.specs.Prelude.{◌≡◌, ℕ, Bool, true, not, is_ok};
 ghost use Rattle.record.specs.Layout.{keeps_layout};
 ghost use Rattle.record.specs.declared.Record.{Record};

@@ -1,5 +1,7 @@
 //! Registers over records: `Table` over records that the caller lends, and `SpareSheet`, which has
 //! 16 of its own, over any register.
+#![tactic(auto)]
+
 mod places;
 mod sheet;
 mod table;

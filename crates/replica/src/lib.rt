@@ -1,4 +1,6 @@
 //! One honest replica: what it holds, which steps its mode allows, and what each step makes of it.
+#![tactic(auto)]
+
 mod line;
 mod verdicts;
 mod view;

@@ -1,6 +1,6 @@
 //! Views: what a replica is allowed in its mode, and how it goes from view to view.
 ghost use Rattle.std.specs.Prelude.{◌≡◌, Ok};
-ghost use Rattle.replica.specs.Modes.{«mode_of», in_mode};
+ghost use Rattle.replica.specs.Modes.{mode_of, in_mode};
 ghost use Rattle.replica.specs.Replicas.{still, reach, left, started, entered};
 
 use crate::word::one_past;

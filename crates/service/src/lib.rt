@@ -1,4 +1,6 @@
 //! What a service is: a state that operations of 64 bits change, with an answer of 64 bits to each.
+#![tactic(auto)]
+
 ghost use Rattle.std.specs.Prelude.{◌≡◌, ℕ};
 
 /// The answer where an operation asks for what there is not: no curve holds the stage, or the

@@ -1,4 +1,6 @@
 //! A register over bytes that the caller lends.
+#![tactic(auto)]
+
 ghost use Rattle.std.specs.Prelude.{◌≡◌, ◌<◌, Decides};
 ghost use Rattle.std.specs.Str.{bytes_eq};
 ghost use Rattle.record.specs.Packed.{Packs};
@@ -6,7 +8,7 @@ ghost use Rattle.record.specs.Tapes.{places, place};
 ghost use Rattle.record.specs.declared.Record.{Record};
 ghost use Rattle.register.specs.Sets.{Emptiness, Entered, nothing};
 ghost use Rattle.register.specs.Stored.{any};
-ghost use Rattle.tape.specs.Tapes.{used_parts, on_tape, replaced, «entered_on», tape_held, tape_free};
+ghost use Rattle.tape.specs.Tapes.{used_parts, on_tape, replaced, entered_on, tape_held, tape_free};
 
 use record::{Record, SIZE, part_at};
 use refusal::Refusal;

@@ -4,4 +4,4 @@ use Rattle.tape.proofs.part_holds.Goals as goal
 
 pub returns-in-Some : goal.returns-in-Some
 returns-in-Some c =
-    Decides-at _ _ c.is-ok.ensures.value (unpacked c.unpack.result _ _ c.in-Some.ensures.1 c.unpack.ensures)
+    Decides-at _ _ c.is_ok.ensures.value (unpacked c.unpack.result _ _ c.in-Some.ensures.1 c.unpack.ensures)

@@ -7,7 +7,7 @@ pub returns : goal.returns
 returns g c =
     let a = c.args in
     let s = g.R.Register.held a.register.now in
-    let tried : c.check-backing.result ≡ merge_grounds s a.n a.q a.stamped a.target a.picks.now a.base =
+    let tried : c.check_backing.result ≡ merge_grounds s a.n a.q a.stamped a.target a.picks.now a.base =
     search rules in
     record {
       grounds = tried;

@@ -7,8 +7,8 @@ use Rattle.record.proofs.Record.pack.Goals as goal
 pub returns : goal.returns
 returns c =
     let r = c.args.self.now in
-    let kept = sym c.if-not-keeps-layout.ensures.value in
-    let bytes = c.bytes-of.ensures in
+    let kept = sym c.if-not-keeps_layout.ensures.value in
+    let bytes = c.bytes_of.ensures in
     record {
       value = ap Ok bytes ∙ sym (cond-true (keeps_layout r) _ _ kept);
       alone = λ x p. packs_alone r x _ (record { layout = kept; bytes = sym bytes }) p;

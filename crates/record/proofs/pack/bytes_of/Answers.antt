@@ -7,6 +7,6 @@ use Rattle.record.proofs.pack.bytes_of.Goals as goal
 pub returns : goal.returns
 returns c =
     packed_copied c.args.r.now c.requires _ _ _
-    (c.copy-from-slice.ensures.after ∙ c.to-be-bytes.ensures ∙ sym (be4_is _) ∙ ap (be 4) c.head.ensures)
-    (c.copy-from-slice-2.ensures.after ∙ c.to-be-bytes-2.ensures ∙ sym (be8_is _))
-    (c.copy-from-slice-3.ensures.after ∙ c.to-be-bytes-3.ensures ∙ sym (be8_is _))
+    (c.copy_from_slice.ensures.after ∙ c.to_be_bytes.ensures ∙ sym (be4_is _) ∙ ap (be 4) c.head.ensures)
+    (c.copy_from_slice-2.ensures.after ∙ c.to_be_bytes-2.ensures ∙ sym (be8_is _))
+    (c.copy_from_slice-3.ensures.after ∙ c.to_be_bytes-3.ensures ∙ sym (be8_is _))

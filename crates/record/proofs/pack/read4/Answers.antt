@@ -3,4 +3,4 @@ use Rattle.record.proofs.Bytes.{be_read}
 use Rattle.record.proofs.pack.read4.Goals as goal
 
 pub returns : goal.returns
-returns c = be_read 4 c.args.i _ c.args.b.now c.fits-b (omega arith) (omega (arith, c.from-be-bytes.ensures))
+returns c = be_read 4 c.args.i _ c.args.b.now c.fits-b (omega arith) (omega (arith, c.from_be_bytes.ensures))

@@ -13,4 +13,4 @@ pub returns : goal.returns
 returns c =
     let b = c.args.tape.now in
     let i = c.args.position in
-    first c.first-chunk.result b _ i (omega (arith, c.if-position-tape.false)) (take_rest b (20 * i)) c.first-chunk.ensures.cases
+    first c.first_chunk.result b _ i (omega (arith, c.if-position-tape.false)) (take_rest b (20 * i)) c.first_chunk.ensures.cases

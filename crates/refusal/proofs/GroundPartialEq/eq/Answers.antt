@@ -4,7 +4,7 @@ use Rattle.refusal.specs.Grounds.{ground_number}
 use Rattle.refusal.proofs.Numbers.{same_ground}
 use Rattle.refusal.proofs.GroundPartialEq.eq.Goals as goal
 
-pub returns : goal.returns
-returns c =
-    let is = c.same-number.ensures in
+pub returns-clause-meaning : goal.returns-clause-meaning
+returns-clause-meaning c =
+    let is = c.same_number.ensures in
     (λ e. same_ground _ _ (eqb-true _ _ (sym is ∙ e)), λ e. is ∙ eq-eqb _ _ (ap ground_number e))

@@ -6,7 +6,7 @@ use Rattle.replica.proofs.word.bit.Goals as goal
 
 pub returns-then-slot-lt-SLOTS : goal.returns-then-slot-lt-SLOTS
 unfolding bit
-returns-then-slot-lt-SLOTS c = c.is-set.ensures
+returns-then-slot-lt-SLOTS c = c.is_set.ensures
 
 -- a word has 64 bits, so it has none from 64 on
 pub returns-else-slot-lt-SLOTS : goal.returns-else-slot-lt-SLOTS
