@@ -28,7 +28,7 @@ fn prepare_no_op(view: u8, slot: u8) -> Record
 
 // Whether a quorum said PREPARE of no-op in the view for each slot whose bit the word has.
 fn prepared<R: Register>(register: &R, n: u8, q: u8, view: u8, word: u64) -> bool
-    ensures { result ≡ prepared (held register.now) n q view word }
+    ensures { result ≡ prepared (R.held register.now) n q view word }
 {
     for slot in 0..64 {
         if bit(word, slot) && !reached(register, &prepare_no_op(view, slot), n, q) {
@@ -40,7 +40,7 @@ fn prepared<R: Register>(register: &R, n: u8, q: u8, view: u8, word: u64) -> boo
 
 // Whether a pick is in the register and, if its last is `top`, its word is prepared in that view.
 fn backed<R: Register>(register: &R, n: u8, q: u8, top: u8, pick: &Record) -> bool
-    ensures { result ≡ backed (held register.now) n q top pick.now }
+    ensures { result ≡ backed (R.held register.now) n q top pick.now }
 {
     register.ask(pick) && (pick.last != top || prepared(register, n, q, top, pick.word))
 }
@@ -53,7 +53,7 @@ pub(crate) fn check_backing<R: Register>(
     top: u8,
     picks: &[Record],
 ) -> Result<(), Refusal>
-    ensures { result ≡ backing_grounds (held register.now) n q top picks.now }
+    ensures { result ≡ backing_grounds (R.held register.now) n q top picks.now }
 {
     for (place, pick) in picks.iter().enumerate() {
         if !backed(register, n, q, top, pick) {

@@ -28,7 +28,7 @@ fn entry(view: u8, line: (u8, u64)) -> Record
 
 // Whether the base is certified for the view: 0 and 0 for view 0, else a quorum said ENTRY with it.
 fn certified<R: Register>(register: &R, n: u8, q: u8, view: u8, base: (u8, u64)) -> bool
-    ensures { result ≡ certified (held register.now) n q view base }
+    ensures { result ≡ certified (R.held register.now) n q view base }
 {
     if view == 0 {
         return base.0 == 0 && base.1 == 0;
@@ -44,7 +44,7 @@ pub(crate) fn check_base<R: Register>(
     view: u8,
     base: (u8, u64),
 ) -> Result<(), Refusal>
-    ensures { result ≡ base_grounds (held register.now) n q view base }
+    ensures { result ≡ base_grounds (R.held register.now) n q view base }
 {
     if !certified(register, n, q, view, base) {
         return Err(refused(Ground::BaseNotCertified, 0));

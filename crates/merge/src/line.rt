@@ -37,8 +37,8 @@ fn check<R: Register>(
     picks: &[Record],
     base: (u8, u64),
 ) -> Result<(), Refusal>
-    ensures grounds { result ≡ merge_grounds (held register.now) n q stamped target picks.now base }
-    ensures meaning { is_ok result ≡ true → Checked (held register.now) n q stamped target picks.now base }
+    ensures grounds { result ≡ merge_grounds (R.held register.now) n q stamped target picks.now base }
+    ensures meaning { is_ok result ≡ true → Checked (R.held register.now) n q stamped target picks.now base }
 {
     check_picks(n, q, stamped, target, picks)?;
     let top = top(picks);
@@ -58,8 +58,8 @@ pub fn merging<R: Register>(
     picks: &[Record],
     base: (u8, u64),
 ) -> Result<(u8, u64), Refusal>
-    ensures answer { result ≡ merging (held register.now) n q stamped target picks.now base }
-    ensures meaning { is_ok result ≡ true → Checked (held register.now) n q stamped target picks.now base }
+    ensures answer { result ≡ merging (R.held register.now) n q stamped target picks.now base }
+    ensures meaning { is_ok result ≡ true → Checked (R.held register.now) n q stamped target picks.now base }
 {
     check(register, n, q, stamped, target, picks, base)?;
     Ok(merge(picks, base))

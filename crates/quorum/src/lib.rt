@@ -22,7 +22,7 @@ fn signed_by(statement: &Record, signer: u8) -> Record
 
 // Whether a replica said the statement. Only a number below 16 can be a signer's.
 fn said<R: Register>(register: &R, statement: &Record, replica: u8) -> bool
-    ensures said { result ≡ said (held register.now) statement.now replica }
+    ensures said { result ≡ said (R.held register.now) statement.now replica }
     ensures below { result ≡ true → replica < 16 }
 {
     register.ask(&signed_by(statement, replica))
@@ -30,7 +30,7 @@ fn said<R: Register>(register: &R, statement: &Record, replica: u8) -> bool
 
 /// How many of the replicas below `n` said the statement, each under its own number.
 pub fn count<R: Register>(register: &R, statement: &Record, n: u8) -> u8
-    ensures { result ≡ count n (said (held register.now) statement.now) }
+    ensures { result ≡ count n (said (R.held register.now) statement.now) }
 {
     let mut count = 0;
     for signer in 0..n {
@@ -49,7 +49,7 @@ pub fn witnesses<R: Register>(
     n: u8,
     q: u8,
 ) -> Option<[u8; SIGNERS]>
-    ensures { Finds n q (said (held register.now) statement.now) result }
+    ensures { Finds n q (said (R.held register.now) statement.now) result }
 {
     let mut found = [0; SIGNERS];
     let mut count = 0;
@@ -71,7 +71,7 @@ pub fn witnesses<R: Register>(
 
 /// Whether at least `q` of the replicas below `n` said the statement.
 pub fn reached<R: Register>(register: &R, statement: &Record, n: u8, q: u8) -> bool
-    ensures { result ≡ quorum (held register.now) n q statement.now }
+    ensures { result ≡ quorum (R.held register.now) n q statement.now }
 {
     witnesses(register, statement, n, q).is_some()
 }

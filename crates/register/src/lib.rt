@@ -48,15 +48,15 @@ pub trait Register {
 
 // Enters `r`. What a grant comes to is told by members and places.
 fn enter<R: Register>(register: &mut R, r: &Record) -> Result<(), Refusal>
-    ensures entered { Entered (held register.old) (free register.old) r.now result (held register.new) (free register.new) }
-    ensures granted { is_ok result ≡ true → Granted (held register.old) (free register.old) r.now (not (held register.old r.now)) (held register.new) (free register.new) }
+    ensures entered { Entered (R.held register.old) (R.free register.old) r.now result (R.held register.new) (R.free register.new) }
+    ensures granted { is_ok result ≡ true → Granted (R.held register.old) (R.free register.old) r.now (not (R.held register.old r.now)) (R.held register.new) (R.free register.new) }
 {
     register.enter(r)
 }
 
 /// Enters `r`, and answers whether it was new to the register.
 pub fn insert<R: Register>(register: &mut R, r: &Record) -> Result<bool, Refusal>
-    ensures { Inserted (held register.old) (free register.old) r.now result (held register.new) (free register.new) }
+    ensures { Inserted (R.held register.old) (R.free register.old) r.now result (R.held register.new) (R.free register.new) }
 {
     let known = register.ask(r);
     enter(register, r)?;

@@ -84,8 +84,8 @@ pub struct SpareSheet<R> {
 impl<R: Register> SpareSheet<R> {
     /// Lays an empty sheet over a register: the set stays, and there are 16 free places more.
     pub fn new(below: R) -> SpareSheet<R>
-        ensures held { together (R.Register.held result.below) (sheet_held result.sheet) ≡ R.Register.held below }
-        ensures free { R.Register.free result.below + sheet_free result.sheet ≡ R.Register.free below + 16 }
+        ensures held { together (R.held result.below) (sheet_held result.sheet) ≡ R.held below }
+        ensures free { R.free result.below + sheet_free result.sheet ≡ R.free below + 16 }
         ensures below { result.below ≡ below }
         ensures sheet { sheet_held result.sheet ≡ nothing }
     {
@@ -97,9 +97,9 @@ impl<R: Register> SpareSheet<R> {
 }
 
 impl<R: Register> Register for SpareSheet<R> {
-    ghost held = { λ s. together (R.Register.held s.below) (sheet_held s.sheet) };
+    ghost held = { λ s. together (R.held s.below) (sheet_held s.sheet) };
 
-    ghost free = { λ s. R.Register.free s.below + sheet_free s.sheet };
+    ghost free = { λ s. R.free s.below + sheet_free s.sheet };
 
     fn ask(&self, r: &Record) -> bool {
         self.below.ask(r) || self.sheet.ask(r)
@@ -111,8 +111,8 @@ impl<R: Register> Register for SpareSheet<R> {
 
     /// A new statement is entered below. The sheet takes it only if the register below refuses it.
     fn enter(&mut self, r: &Record) -> Result<(), Refusal>
-        ensures entered { Entered (together (R.Register.held self.old.below) (sheet_held self.old.sheet)) (R.Register.free self.old.below + sheet_free self.old.sheet) r.now result (together (R.Register.held self.new.below) (sheet_held self.new.sheet)) (R.Register.free self.new.below + sheet_free self.new.sheet) }
-        ensures order { BelowFirst (R.Register.held self.old.below) (R.Register.free self.old.below) self.old.sheet r.now (R.Register.held self.new.below) (R.Register.free self.new.below) self.new.sheet }
+        ensures entered { Entered (together (R.held self.old.below) (sheet_held self.old.sheet)) (R.free self.old.below + sheet_free self.old.sheet) r.now result (together (R.held self.new.below) (sheet_held self.new.sheet)) (R.free self.new.below + sheet_free self.new.sheet) }
+        ensures order { BelowFirst (R.held self.old.below) (R.free self.old.below) self.old.sheet r.now (R.held self.new.below) (R.free self.new.below) self.new.sheet }
     {
         if self.sheet.ask(r) {
             return Ok(());

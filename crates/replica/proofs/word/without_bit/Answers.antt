@@ -4,8 +4,8 @@ use Rattle.replica.specs.Words.{without_bit}
 use Rattle.replica.proofs.Words.{without_above}
 use Rattle.replica.proofs.word.without_bit.Goals as goal
 
-pub overflow-sub-result : goal.overflow-sub-result
-overflow-sub-result c = and_le_l _ _
+pub overflow_sub-result : goal.overflow_sub-result
+overflow_sub-result c = and_le_l _ _
 
 pub returns-then-slot-lt-SLOTS : goal.returns-then-slot-lt-SLOTS
 unfolding without_bit

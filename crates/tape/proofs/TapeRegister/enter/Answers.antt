@@ -11,6 +11,6 @@ returns c =
     let r = c.args.r.now in
     let kept : keeps_layout r ≡ true = search rules in
     let absent : tape_held t r ≡ false = search rules in
-    let bytes : c.in-ok-bytes.bytes ≡ packed r = search rules in
+    let bytes : c.in_ok-bytes.bytes ≡ packed r = search rules in
     let written : c.put.new.tape ≡ replaced t.used t.bytes.now (packed r) = c.put.ensures ∙ ap (replaced t.used t.bytes.now) bytes in
     search (rules, put_enters, put_is_entered)
