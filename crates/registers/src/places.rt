@@ -62,9 +62,9 @@ pub(crate) fn holds_nothing(places: &[Record]) -> bool
 
 // Writes `r`, a statement that is none of the first `used` records, to the place after them.
 pub(crate) fn put(places: &mut [Record], used: usize, r: &Record)
-    requires used_in_bounds { used < length places.old }
-    requires r_value { keeps_layout r.now ≡ true }
-    requires r_value_2 { in_places used places.old r.now ≡ false }
+    requires room { used < length places.old }
+    requires statement { keeps_layout r.now ≡ true }
+    requires new { in_places used places.old r.now ≡ false }
     ensures places { places.new ≡ slice_set places.old used r.now }
     ensures entered { Entered (in_places used places.old) (room used places.old) r.now (Ok tt) (in_places (used + 1) places.new) (room (used + 1) places.new) }
 {
