@@ -7,7 +7,7 @@ use Rattle.std.proofs.ByRecursion.{All-weaker}
 use Rattle.std.proofs.lemmas.Bool.{eqb-true, eq-eqb, or_left, or_right, or_cases, cond_both}
 use Rattle.record.specs.declared.Record.{Record}
 use Rattle.replica.specs.Words.{bit}
-use Rattle.replica.proofs.Words.{bit_or}
+use Rattle.replica.proofs.Words.{bit_of_or}
 use Rattle.merge.proofs.Joins.{alike, max_swap, joins_reaches, joins_words, joins_alike}
 use Rattle.merge.specs.Merges.{top, merged_length, merged_word, MergesAlike}
 
@@ -62,7 +62,7 @@ word_below t w k (p ∷ ps) h f =
 
 word_step : (b : Bool) (l v w : ℕ) → bit w l ≡ true → bit (cond b (bit_or v w) w) l ≡ true
 word_step b l v w h =
-    cond_both b (bit_or v w) w (λ m. bit m l ≡ true) (λ _. bit_or l v w ∙ or_right (bit v l) (bit w l) h) (λ _. h)
+    cond_both b (bit_or v w) w (λ m. bit m l ≡ true) (λ _. bit_of_or l v w ∙ or_right (bit v l) (bit w l) h) (λ _. h)
 
 pub word_base : (t w l : ℕ) (ps : List Record) → bit w l ≡ true → bit (merged_word t w ps) l ≡ true
 word_base t w l [] h = h
@@ -72,7 +72,7 @@ pub word_picks : (t w : ℕ) (ps : List Record) → All (λ p. p.last ≡ t → 
 word_picks t w [] = tt
 word_picks t w (p ∷ ps) =
     let m = merged_word t w ps in (
-      λ e l h. subst (λ (b : Bool). bit (cond b (bit_or p.word m) m) l ≡ true) (sym (eq-eqb p.last t e)) (bit_or l p.word m ∙ or_left (bit p.word l) (bit m l) h),
+      λ e l h. subst (λ (b : Bool). bit (cond b (bit_or p.word m) m) l ≡ true) (sym (eq-eqb p.last t e)) (bit_of_or l p.word m ∙ or_left (bit p.word l) (bit m l) h),
       All-weaker _ _ (λ q f e l h. word_step (eqb p.last t) l p.word m (f e l h)) ps (word_picks t w ps),
     )
 
@@ -82,7 +82,7 @@ word_from t w l A [] f h = inl h
 word_from t w l A (p ∷ ps) f h = go (eqb p.last t) refl h (word_from t w l A ps f.1)
   where
     go : (b : Bool) → eqb p.last t ≡ b → bit (cond b (bit_or p.word (merged_word t w ps)) (merged_word t w ps)) l ≡ true → (bit (merged_word t w ps) l ≡ true → (bit w l ≡ true) ⊎ A) → (bit w l ≡ true) ⊎ A
-    go true e k rest = elim (or_cases (bit p.word l) (bit (merged_word t w ps) l) (sym (bit_or l p.word (merged_word t w ps)) ∙ k)) [
+    go true e k rest = elim (or_cases (bit p.word l) (bit (merged_word t w ps) l) (sym (bit_of_or l p.word (merged_word t w ps)) ∙ k)) [
       | inl b ↦ inr (f.0 (eqb-true p.last t e) b)
       | inr b ↦ rest b
     ]

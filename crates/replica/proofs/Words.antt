@@ -27,16 +27,16 @@ bit_suc w l = ap (λ (x : ℕ). eqb (x % 2) 1) (ap (λ (x : ℕ). w / 2 ^ x) (sy
 max_test : (x y : ℕ) → x < 2 → y < 2 → eqb (max x y) 1 ≡ (eqb x 1 || eqb y 1)
 max_test x y p q = grind (arith, nat_tests)
 
-pub bit_or : (l a b : ℕ) → bit (bit_or a b) l ≡ (bit a l || bit b l)
-bit_or zero a b =
+pub bit_of_or : (l a b : ℕ) → bit (bit_or a b) l ≡ (bit a l || bit b l)
+bit_of_or zero a b =
     bit_zero (bit_or a b)
     ∙ same_test (bit_or a b % 2) (max (a % 2) (b % 2)) (omega (arith, or_step a b))
     ∙ max_test (a % 2) (b % 2) (omega arith) (omega arith)
     ∙ sym (ap₂ ◌||◌ (bit_zero a) (bit_zero b))
-bit_or (suc l) a b =
+bit_of_or (suc l) a b =
     bit_suc (bit_or a b) l
     ∙ ap (λ (x : ℕ). bit x l) (or_shr a b 1)
-    ∙ bit_or l (a / 2) (b / 2)
+    ∙ bit_of_or l (a / 2) (b / 2)
     ∙ sym (ap₂ ◌||◌ (bit_suc a l) (bit_suc b l))
 
 -- the s lowest bits of a word are its own
@@ -164,7 +164,7 @@ with_other w s l n =
 with_keeps : (w s l : ℕ) → bit w l ≡ true → bit (with_bit w s) l ≡ true
 unfolding with_bit
 with_keeps w s l h =
-    cond_both (ltb s 64) (bit_or w (2 ^ s)) w (λ x. bit x l ≡ true) (λ _. bit_or l w (2 ^ s) ∙ or_left (bit w l) (bit (2 ^ s) l) h) (λ _. h)
+    cond_both (ltb s 64) (bit_or w (2 ^ s)) w (λ x. bit x l ≡ true) (λ _. bit_of_or l w (2 ^ s) ∙ or_left (bit w l) (bit (2 ^ s) l) h) (λ _. h)
 
 with_lt : (w s k : ℕ) → (s < 64 → s < k) → w < 2 ^ k → with_bit w s < 2 ^ k
 unfolding with_bit
