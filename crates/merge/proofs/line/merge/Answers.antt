@@ -7,8 +7,8 @@ use Rattle.merge.proofs.line.merge.Goals.{then-pick-top, else-pick-top}
 pub loop-pick-preserved : goal.loop-pick-preserved
 loop-pick-preserved c =
     elim c.if-pick-top.branch [
-      | then-pick-top w ↦ let longer = w.length_is ∙ w.max-length.ensures in search (rules, line_more)
-      | else-pick-top w ↦ line_past _ _ _ _ _ _ _ c.loop-pick.invariant _ _ _ c.loop-pick-test.true w.if-pick-top.false w.length_is w.word-is
+      | then-pick-top w ↦ let longer = w.length-is ∙ w.max-length.ensures in search (rules, line_more)
+      | else-pick-top w ↦ line_past _ _ _ _ _ _ _ c.loop-pick.invariant _ _ _ c.loop-pick-test.true w.if-pick-top.false w.length-is w.word-is
     ]
 
 pub returns : goal.returns
