@@ -8,8 +8,8 @@ const REPLICAS: u8 = 4;
 
 const QUORUM: u8 = 3;
 
-/// The statement that a replica answered `result` for slot 1 of view 0.
-pub fn answer_of(signer: u8, res: u64) -> Record {
+/// The statement that a replica answered `answer` for slot 1 of view 0.
+pub fn answer_of(signer: u8, answer: u64) -> Record {
     Record {
         kind: kind::REPLY,
         signer,
@@ -18,7 +18,7 @@ pub fn answer_of(signer: u8, res: u64) -> Record {
         slot: 1,
         verdict: 0,
         word: 0,
-        result: res,
+        result: answer,
     }
 }
 
@@ -54,19 +54,19 @@ fn print_quorum<R: Register>(
 }
 
 /// Enters the answers of four replicas into a table of three places, then with a spare sheet.
-pub fn enter_answers(rt: &HostRuntime, res: u64) -> anyhow::Result<()> {
-    println!(rt; "Register: a table of 3 places, for the answers {res} of 4 replicas")?;
+pub fn enter_answers(rt: &HostRuntime, answer: u64) -> anyhow::Result<()> {
+    println!(rt; "Register: a table of 3 places, for the answers {answer} of 4 replicas")?;
     let mut places = [answer_of(0, 0); 3];
     let mut table = Table::new(&mut places);
-    enter(rt, &mut table, &answer_of(0, res))?;
-    enter(rt, &mut table, &answer_of(1, res))?;
-    enter(rt, &mut table, &answer_of(1, res))?;
-    print_quorum(rt, &table, &answer_of(0, res))?;
-    enter(rt, &mut table, &answer_of(2, res))?;
-    enter(rt, &mut table, &answer_of(3, res))?;
+    enter(rt, &mut table, &answer_of(0, answer))?;
+    enter(rt, &mut table, &answer_of(1, answer))?;
+    enter(rt, &mut table, &answer_of(1, answer))?;
+    print_quorum(rt, &table, &answer_of(0, answer))?;
+    enter(rt, &mut table, &answer_of(2, answer))?;
+    enter(rt, &mut table, &answer_of(3, answer))?;
     println!(rt; "Spare sheet: laid over the table, which is full")?;
     let mut sheet = SpareSheet::new(table);
-    enter(rt, &mut sheet, &answer_of(2, res))?;
-    enter(rt, &mut sheet, &answer_of(3, res))?;
-    print_quorum(rt, &sheet, &answer_of(0, res))
+    enter(rt, &mut sheet, &answer_of(2, answer))?;
+    enter(rt, &mut sheet, &answer_of(3, answer))?;
+    print_quorum(rt, &sheet, &answer_of(0, answer))
 }

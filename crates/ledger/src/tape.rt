@@ -61,11 +61,11 @@ fn tape_of(bytes: &[u8; 20]) -> [u8; 40] {
     tape
 }
 
-/// Packs the statement that a replica answered `result`, and reads it back from a tape, on which
+/// Packs the statement that a replica answered `answer`, and reads it back from a tape, on which
 /// the same bytes follow with a filling bit set.
-pub fn pack_and_read(rt: &HostRuntime, res: u64) -> anyhow::Result<()> {
-    println!(rt; "Statement: replica 2 answers {res} for slot 1 of view 0")?;
-    let bytes = answer_of(2, res).pack()?;
+pub fn pack_and_read(rt: &HostRuntime, answer: u64) -> anyhow::Result<()> {
+    println!(rt; "Statement: replica 2 answers {answer} for slot 1 of view 0")?;
+    let bytes = answer_of(2, answer).pack()?;
     print_bytes(rt, &bytes)?;
     println!(rt; "Tape: these 20 bytes, then the same with a filling bit set in the fourth byte")?;
     let tape = tape_of(&bytes);

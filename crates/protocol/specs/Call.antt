@@ -44,8 +44,8 @@ pub data Call : Type 0 where
   Reply : (replica slot : ℕ) → Call
   Leave : (replica target : ℕ) → Call
   Forge : (x : Record) → Call
-  Lead : (replica : ℕ) (picks : List Record) (base-length base_IsWord : ℕ) → Call
-  Start : (replica : ℕ) (picks : List Record) (base-length base_IsWord : ℕ) → Call
+  Lead : (replica : ℕ) (picks : List Record) (base_length base_word : ℕ) → Call
+  Start : (replica : ℕ) (picks : List Record) (base_length base_word : ℕ) → Call
   Enter : (replica length word view : ℕ) → Call
   AskAnswer : (room view slot word result : ℕ) → Call
   AskNoOp : (room view slot : ℕ) → Call
