@@ -1,6 +1,6 @@
 -- What a grant tells of the picks.
 use Rattle.std.proofs.Common.{◌≡◌, ℕ, zero, suc, ◌+◌, ◌<◌, Bool, true, false, eqb, List, [], ◌∷◌, length, get_or, take, is_ok, Ok, Err, refl, subst, inl, inr, arith}
-use Rattle.std.specs.List.{AllByRecursion as All}
+use Rattle.std.specs.List.{AllByRecursion}
 use Rattle.std.proofs.ByRecursion.{all_from_every}
 use Rattle.std.proofs.lemmas.Bool.{or_parts, eqb-true, eqb-false, cases_eq, both_ways}
 use Rattle.std.proofs.lemmas.Bool.Decides.{nat_tests}
@@ -34,7 +34,7 @@ passes_at g t k (p ∷ ps) h (suc i) j e d l =
 each_passes : (g : Ground) (t : ℕ → Record → Bool) (ps : List Record) → is_ok (first_fault g t 0 ps) ≡ true → (i : ℕ) (d : Record) → i < length ps → t i (get_or ps i d) ≡ true
 each_passes g t ps h i = passes_at g t 0 ps h i i (omega arith)
 
-pub layouts_from : (ps : List Record) → is_ok (layout_grounds ps) ≡ true → All (λ p. keeps_layout p ≡ true) ps
+pub layouts_from : (ps : List Record) → is_ok (layout_grounds ps) ≡ true → AllByRecursion (λ p. keeps_layout p ≡ true) ps
 layouts_from ps h = all_from_every _ ps (λ i d _ l. each_passes Layout (λ _ p. keeps_layout p) ps h i d l)
 
 -- picks of which none is signed by the signer of one before it

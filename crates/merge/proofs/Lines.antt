@@ -2,7 +2,7 @@
 use Rattle.std.proofs.Common.{◌≡◌, ℕ, ◌^◌, ◌<◌, ◌≤◌, max, Bool, true, false, cond, eqb, ◌⊎◌, List, [], ◌∷◌, sym, refl, ap, ◌∙◌, subst, ap₂, inl, inr, arith}
 use mathlib.Core.List.{Perm}
 use lib.Bits.{bit_or, or_lt}
-use Rattle.std.specs.List.{AllByRecursion as All}
+use Rattle.std.specs.List.{AllByRecursion}
 use Rattle.std.proofs.ByRecursion.{All-weaker}
 use Rattle.std.proofs.lemmas.Bool.{eqb-true, eq-eqb, or_left, or_right, or_cases, cond_both}
 use Rattle.record.specs.declared.Record.{Record}
@@ -24,11 +24,11 @@ merges_alike b ps qs h =
     (ap (λ (v : ℕ). merged_word v b.1 ps) e
     ∙ joins_alike (joins_words t) b.1 ps qs h)
 
-pub top_over : (ps : List Record) → All (λ p. p.last ≤ top ps) ps
+pub top_over : (ps : List Record) → AllByRecursion (λ p. p.last ≤ top ps) ps
 top_over [] = tt
 top_over (p ∷ ps) = (omega arith, All-weaker _ _ (λ q h. omega arith) ps (top_over ps))
 
-pub top_below : (v : ℕ) (ps : List Record) → 0 < v → All (λ p. p.last < v) ps → top ps < v
+pub top_below : (v : ℕ) (ps : List Record) → 0 < v → AllByRecursion (λ p. p.last < v) ps → top ps < v
 top_below v [] h f = h
 top_below v (p ∷ ps) h f = omega (arith, f.0, top_below v ps h f.1)
 
@@ -40,7 +40,7 @@ length_base t n [] = omega arith
 length_base t n (p ∷ ps) =
     omega (arith, length_base t n ps, length_step (eqb p.last t) p.slot (merged_length t n ps))
 
-pub length_picks : (t n : ℕ) (ps : List Record) → All (λ p. p.last ≡ t → p.slot ≤ merged_length t n ps) ps
+pub length_picks : (t n : ℕ) (ps : List Record) → AllByRecursion (λ p. p.last ≡ t → p.slot ≤ merged_length t n ps) ps
 length_picks t n [] = tt
 length_picks t n (p ∷ ps) =
     let m = merged_length t n ps in (
@@ -48,13 +48,13 @@ length_picks t n (p ∷ ps) =
       All-weaker _ _ (λ q f e. omega (arith, f e, length_step (eqb p.last t) p.slot m)) ps (length_picks t n ps),
     )
 
-pub length_least : (t n k : ℕ) (ps : List Record) → n ≤ k → All (λ p. p.last ≡ t → p.slot ≤ k) ps → merged_length t n ps ≤ k
+pub length_least : (t n k : ℕ) (ps : List Record) → n ≤ k → AllByRecursion (λ p. p.last ≡ t → p.slot ≤ k) ps → merged_length t n ps ≤ k
 length_least t n k [] h f = h
 length_least t n k (p ∷ ps) h f =
     let rest = length_least t n k ps h f.1 in
     cond_both (eqb p.last t) _ _ (λ m. m ≤ k) (λ e. omega (arith, rest, f.0 (eqb-true p.last t e))) (λ _. rest)
 
-pub word_below : (t w k : ℕ) (ps : List Record) → w < 2 ^ k → All (λ p. p.last ≡ t → p.word < 2 ^ k) ps → merged_word t w ps < 2 ^ k
+pub word_below : (t w k : ℕ) (ps : List Record) → w < 2 ^ k → AllByRecursion (λ p. p.last ≡ t → p.word < 2 ^ k) ps → merged_word t w ps < 2 ^ k
 word_below t w k [] h f = h
 word_below t w k (p ∷ ps) h f =
     let rest = word_below t w k ps h f.1 in
@@ -68,7 +68,7 @@ pub word_base : (t w l : ℕ) (ps : List Record) → bit w l ≡ true → bit (m
 word_base t w l [] h = h
 word_base t w l (p ∷ ps) h = word_step (eqb p.last t) l p.word (merged_word t w ps) (word_base t w l ps h)
 
-pub word_picks : (t w : ℕ) (ps : List Record) → All (λ p. p.last ≡ t → (l : ℕ) → bit p.word l ≡ true → bit (merged_word t w ps) l ≡ true) ps
+pub word_picks : (t w : ℕ) (ps : List Record) → AllByRecursion (λ p. p.last ≡ t → (l : ℕ) → bit p.word l ≡ true → bit (merged_word t w ps) l ≡ true) ps
 word_picks t w [] = tt
 word_picks t w (p ∷ ps) =
     let m = merged_word t w ps in (
@@ -77,7 +77,7 @@ word_picks t w (p ∷ ps) =
     )
 
 -- a bit of the merge comes from the base or from a pick
-pub word_from : (t w l : ℕ) (A : Type 0) (ps : List Record) → All (λ p. p.last ≡ t → bit p.word l ≡ true → A) ps → bit (merged_word t w ps) l ≡ true → (bit w l ≡ true) ⊎ A
+pub word_from : (t w l : ℕ) (A : Type 0) (ps : List Record) → AllByRecursion (λ p. p.last ≡ t → bit p.word l ≡ true → A) ps → bit (merged_word t w ps) l ≡ true → (bit w l ≡ true) ⊎ A
 word_from t w l A [] f h = inl h
 word_from t w l A (p ∷ ps) f h = go (eqb p.last t) refl h (word_from t w l A ps f.1)
   where

@@ -19,7 +19,7 @@
 --   Picked s n q m v t p           — p is a good pick for the view v where t is the greatest last
 --   Checked s n q m v ps b         — ps are good picks for the view v over the base b
 use Rattle.std.specs.Prelude.{◌≡◌, ℕ, zero, suc, ◌+◌, ◌<◌, ◌≤◌, Bool, true, cond, not, ◌&&◌, ◌||◌, ◌≢◌, ◌⊎◌, List, [], ◌∷◌, length, take, Ok, Err, Result, ◌==◌, nat_eq, nat_le, nat_lt}
-use Rattle.std.specs.List.{AllByRecursion as All}
+use Rattle.std.specs.List.{AllByRecursion}
 use Rattle.refusal.specs.Grounds.{Answer, unless, and_then}
 use Rattle.refusal.specs.declared.Ground.{Ground}
 use Rattle.refusal.specs.declared.Ground.TheVariants.{Layout, Picks, BaseNotCertified, StatementsMissing}
@@ -94,7 +94,7 @@ Certified s n q t b =
 
 abbrev pub Different : List Record → Type 0
 Different [] = Unit {0}
-Different (p ∷ ps) = All (λ (o : Record). p.signer ≢ o.signer) ps × Different ps
+Different (p ∷ ps) = AllByRecursion (λ (o : Record). p.signer ≢ o.signer) ps × Different ps
 
 pub record Picked (s : Set) (n q m v t : ℕ) (p : Record) : Type 0 where
   pub kind : p.kind ≡ 7
@@ -108,5 +108,5 @@ pub record Picked (s : Set) (n q m v t : ℕ) (p : Record) : Type 0 where
 pub record Checked (s : Set) (n q m v : ℕ) (ps : List Record) (b : ℕ × ℕ) : Type 0 where
   pub number : length ps ≡ q
   pub different : Different ps
-  pub each : All (Picked s n q m v (top ps)) ps
+  pub each : AllByRecursion (Picked s n q m v (top ps)) ps
   pub base : Certified s n q (top ps) b

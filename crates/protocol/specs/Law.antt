@@ -11,7 +11,7 @@
 --   OneLedgerAlways     — every life keeps the law, of every bench that opens, with every service and every number of free places
 -- The single service is one service, freshly cleared, that takes the slots from 0 upward and is fed the operations stamped in the life; a no-op of the line and an unstamped slot leave it as it is.
 use Rattle.std.specs.Prelude.{◌≡◌, ℕ, ◌%◌, ◌^◌, ◌<◌, ◌≤◌, true, false, ◌≢◌, List, [], ◌∷◌, length, take, Some}
-use Rattle.std.specs.List.{AllByRecursion as All}
+use Rattle.std.specs.List.{AllByRecursion}
 use Rattle.record.specs.Statements.{reply_by, commit_by}
 use Rattle.record.specs.declared.Record.{Record}
 use Rattle.quorum.specs.Quorums.{signed_by}
@@ -24,7 +24,7 @@ use Rattle.protocol.specs.Life.{Life, Enters, state_at, outcomes_of, nth}
 
 abbrev pub Different : List ℕ → Type 0
 Different [] = Unit {0}
-Different (i ∷ is) = All (λ (j : ℕ). i ≢ j) is × Different is
+Different (i ∷ is) = AllByRecursion (λ (j : ℕ). i ≢ j) is × Different is
 
 abbrev pub Entered : Life → ℕ → Record → Type 0
 Entered y k r = Enters y.bench y.service (opened y.places) (take k y.calls) r
@@ -33,7 +33,7 @@ pub record Signers (y : Life) (k : ℕ) (r : Record) : Type 0 where
   pub who : List ℕ
   pub enough : length who ≡ quorum_size y.bench
   pub different : Different who
-  pub each : All (λ (i : ℕ). (i < replicas y.bench) × Entered y k (signed_by r i)) who
+  pub each : AllByRecursion (λ (i : ℕ). (i < replicas y.bench) × Entered y k (signed_by r i)) who
 
 abbrev pub Answered : Life → (k v s w a : ℕ) → Type 0
 Answered y k v s w a = Signers y k (reply_by 0 v s w a)

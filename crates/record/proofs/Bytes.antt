@@ -1,7 +1,7 @@
 -- Laws of the bytes of a number, for every number of bytes.
 use Rattle.std.proofs.Common.{◌≡◌, ℕ, zero, suc, ◌+◌, ◌*◌, ◌/◌, ◌%◌, ◌^◌, ◌<◌, ◌≤◌, List, [], ◌∷◌, ◌++◌, length, get_or, take, drop, sym, refl, ap, ◌∙◌, mul-le-mul_right, mul_assoc, mul_comm, suc-add, pow-suc, div-add-mod', zero-add, arith, pow-add}
 use native.Mathlib.Nat.{one-le-pow, div-div-eq-div-mul, mul-add-div_right}
-use Rattle.std.specs.List.{AllByRecursion as All}
+use Rattle.std.specs.List.{AllByRecursion}
 use Rattle.std.proofs.lemmas.Nat.{div-mul-add, mod_below, div_below}
 use Rattle.record.specs.Bytes.{be}
 use Rattle.record.proofs.Lists.{elements, elements_cut, length_elements, all_elements}
@@ -60,7 +60,7 @@ number (x ∷ xs) = x * 256 ^ length xs + number xs
 abbrev pub Byte : ℕ → Type 0
 Byte x = x < 256
 
-pub number_below : (xs : List ℕ) → All Byte xs → number xs < 256 ^ length xs
+pub number_below : (xs : List ℕ) → AllByRecursion Byte xs → number xs < 256 ^ length xs
 number_below [] a = omega arith
 number_below (x ∷ xs) a =
     let r = number_below xs a.1 in
@@ -70,7 +70,7 @@ number_below (x ∷ xs) a =
     let m : x * p ≤ 255 * p = mul-le-mul_right p small in
     omega (arith, mul_comm p 256)
 
-pub be_number : (xs : List ℕ) → All Byte xs → be (length xs) (number xs) ≡ xs
+pub be_number : (xs : List ℕ) → AllByRecursion Byte xs → be (length xs) (number xs) ≡ xs
 unfolding be
 be_number [] a = refl
 be_number (x ∷ xs) a =

@@ -1,6 +1,6 @@
 -- Parts of a list: some elements one by one, and three parts end to end.
 use Rattle.std.proofs.Common.{◌≡◌, ℕ, zero, suc, ◌+◌, ◌≤◌, List, [], ◌∷◌, ◌++◌, length, get_or, take, drop, sym, refl, ap, ◌∙◌, add-zero, arith, take-append-drop}
-use Rattle.std.specs.List.{AllByRecursion as All}
+use Rattle.std.specs.List.{AllByRecursion}
 use Rattle.std.proofs.lemmas.List.{take_at, drop_at, drop-drop, drop_more, take_all, length-drop}
 
 -- the place k past i, as an index is written: i, i + 1, i + 2 and so on
@@ -34,7 +34,7 @@ pub length_elements : (n k i : ℕ) (xs : List ℕ) → length (elements n k i x
 length_elements zero k i xs = refl
 length_elements (suc n) k i xs = ap suc (length_elements n (suc k) i xs)
 
-pub all_elements : (P : ℕ → Type 0) (n k i : ℕ) (xs : List ℕ) → ((j : ℕ) → P (get_or xs j 0)) → All P (elements n k i xs)
+pub all_elements : (P : ℕ → Type 0) (n k i : ℕ) (xs : List ℕ) → ((j : ℕ) → P (get_or xs j 0)) → AllByRecursion P (elements n k i xs)
 all_elements P zero k i xs h = tt
 all_elements P (suc n) k i xs h = (h (past i k), all_elements P n (suc k) i xs h)
 
