@@ -3,7 +3,7 @@
 
 mod curve;
 mod operation;
-mod service;
+mod serving;
 mod table;
 
 pub use curve::Curve;

@@ -1,6 +1,6 @@
 use Rattle.std.proofs.Common.{◌≡◌, length, take}
 use Rattle.rating.proofs.Loading.{Placed}
-use Rattle.rating.proofs.service.insert.Given as goal
+use Rattle.rating.proofs.serving.insert.Given as goal
 
 abbrev pub invariant-loop-place : goal.invariant-loop-place
 invariant-loop-place l =

@@ -18,7 +18,9 @@ const BLANK: Curve = Curve {
 // Puts `curve` before the first `count` curves and closes the place of the curve of its number.
 // Answers how many there are then.
 fn insert(curves: &mut [Curve; 8], count: usize, curve: Curve) -> usize
-    requires { (count ≤ 8) × ((numbered 8 (take count curves.old) ≡ true) × (curve.number < 8)) }
+    requires within { count ≤ 8 }
+    requires apart { numbered 8 (take count curves.old) ≡ true }
+    requires below { curve.number < 8 }
     ensures within { result ≤ 8 }
     ensures curves { take result curves.new ≡ loaded curve (take count curves.old) }
 {

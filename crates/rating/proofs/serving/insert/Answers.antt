@@ -1,16 +1,16 @@
-use Rattle.std.proofs.Common.{◌≡◌, ℕ, ◌+◌, ◌<◌, [], ◌∷◌, ◌++◌, length, take, sym, ap, ◌∙◌, arith, length-set}
+use Rattle.std.proofs.Common.{◌≡◌, ℕ, ◌<◌, [], ◌∷◌, ◌++◌, length, take, sym, ap, ◌∙◌, arith, length-set}
 use Rattle.std.proofs.lemmas.List.{take_more_set, length_push, length-take-le}
 use Rattle.rating.specs.Curves.{loaded}
 use Rattle.rating.proofs.Loading.{closed, moved, pushed}
 use Rattle.rating.proofs.Numbers.{loaded_numbered, few}
-use Rattle.rating.proofs.service.insert.Goals as goal
-use Rattle.rating.proofs.service.insert.Goals.{After-loop-place}
+use Rattle.rating.proofs.serving.insert.Goals as goal
+use Rattle.rating.proofs.serving.insert.Goals.{After-loop-place}
 
 pub returns-then-here-curve : goal.returns-then-here-curve
 returns-then-here-curve c =
     let l = c.loop-place in
     record {
-      within = c.requires.0;
+      within = c.requires.within;
       curves = closed c.args.curve c.args.count _ l.curves l.place l.moved _ (omega (arith, l.invariant.0)) l.invariant.1 c.loop-place-test.true c.if-here-curve.true;
     }
 
@@ -35,7 +35,7 @@ room c =
     let size = length_push (take c.args.count l.curves) l.moved in
     let front = length-take-le c.args.count l.curves (omega (arith, l.invariant.0)) in
     let xs = take c.args.count c.args.curves.now in
-    let most = few 8 (loaded c.args.curve xs) (loaded_numbered 8 c.args.curve xs c.requires.1.1 c.requires.1.0) in
+    let most = few 8 (loaded c.args.curve xs) (loaded_numbered 8 c.args.curve xs c.requires.below c.requires.apart) in
     omega (arith, ap length (all_moved c))
 
 pub bounds-curves-count : goal.bounds-curves-count
