@@ -1,5 +1,5 @@
 -- Each call of one replica, or of none, is a step of the rules.
-use Rattle.std.proofs.Common.{◌≡◌, ℕ, ◌+◌, ◌*◌, ◌<◌, ◌≤◌, Bool, true, false, not, List, length, is_ok, Ok, sym, refl, ap, ◌∙◌, subst, arith, rules}
+use Rattle.std.proofs.Common.{◌≡◌, ℕ, ◌<◌, ◌≤◌, true, false, List, length, is_ok, Ok, sym, ap, subst, arith, rules}
 use Rattle.std.proofs.lemmas.Bool.{leb-true}
 use Rattle.refusal.specs.Grounds.{and_then, unless}
 use Rattle.refusal.specs.declared.Ground.TheVariants.{ViewStartMissing}
@@ -9,15 +9,14 @@ use Rattle.quorum.specs.Quorums.{count, said}
 use Rattle.replica.specs.Replicas.{delivered, committed, settled, left, started, entered}
 use Rattle.replica.specs.Verdicts.{verdict_number, other_verdict}
 use Rattle.replica.specs.Words.{bit}
-use Rattle.replica.specs.declared.Replica.{Replica}
 use Rattle.replica.specs.declared.Verdict.{Verdict}
 use Rattle.replica.specs.declared.Verdict.TheVariants.{Operation, NoOp}
 use Rattle.protocol.specs.Setup.{Setup, replicas, quorum_size, foreign, leader, QuorumSaid}
 use Rattle.merge.specs.Checks.{layout_grounds, merge_grounds}
 use Rattle.merge.specs.Merges.{merge}
 use Rattle.merge.proofs.Checking.{checked_from}
-use Rattle.protocol.specs.Service.{Service, Known, answer_at}
-use Rattle.protocol.specs.State.{State, replica_at, state_after, Action}
+use Rattle.protocol.specs.Service.{Service, answer_at}
+use Rattle.protocol.specs.State.{State, replica_at, state_after}
 use Rattle.protocol.specs.Grounds.{reached, dropped}
 use Rattle.protocol.specs.Stamp.{stamp}
 use Rattle.protocol.specs.Deliver.{deliver}

@@ -1,5 +1,5 @@
 -- A call that is granted makes a move: what all calls share.
-use Rattle.std.proofs.Common.{◌≡◌, ℕ, ◌<◌, ◌≤◌, Bool, true, false, cond, ◌||◌, eqb, List, [], ◌∷◌, ◌++◌, length, get_or, set, is_ok, Some, None, Ok, Err, Option, sym, refl, ap, ◌∙◌, subst, inl, inr, arith}
+use Rattle.std.proofs.Common.{◌≡◌, ℕ, ◌<◌, ◌≤◌, true, eqb, List, [], ◌∷◌, ◌++◌, length, get_or, set, is_ok, Some, None, Ok, Err, sym, refl, ap, ◌∙◌, subst, inl, inr, arith}
 use Rattle.std.proofs.lemmas.List.{get_or-set_same, get_or-set_other, length-set}
 use Rattle.std.proofs.lemmas.Bool.{cases_Bool, cases_eq, cond-true, cond-false, cond_both, eq-eqb, ne_eqb, or_left}
 use Rattle.std.proofs.lemmas.Bool.Decides.{nat_tests}
@@ -14,8 +14,8 @@ use Rattle.replica.specs.Replicas.{still}
 use Rattle.replica.specs.declared.Replica.{Replica}
 use Rattle.protocol.specs.Setup.{Setup}
 use Rattle.protocol.specs.Service.{Service}
-use Rattle.protocol.specs.State.{State, replica_at, Action, answer_to, state_after, entry_answer}
-use Rattle.protocol.specs.Model.{Model, placed, Move, rests, stamping, forges, becomes, says, apply}
+use Rattle.protocol.specs.State.{State, replica_at, Action, answer_to, state_after}
+use Rattle.protocol.specs.Model.{placed, rests, stamping, forges, becomes, says}
 use Rattle.protocol.specs.Rules.{Allowed, rest}
 use Rattle.protocol.specs.Steps.{model, Step}
 use Rattle.protocol.proofs.Invariant.{Inv}
