@@ -1,6 +1,6 @@
 -- The worked checks, in one table.
 --   WorkedChecks  — every example comes to the figures stated here
---   worked_run     — what the examples of the services come to when they are run
+--   worked_run    — what the examples of the services come to when they are run
 use Rattle.std.specs.Prelude.{◌≡◌, ℕ, ◌^◌, List, [], ◌∷◌, ◌++◌, replicate, Ok}
 use Rattle.record.specs.Packed.{packing, Packs}
 use Rattle.record.specs.declared.Record.{Record}

@@ -3,7 +3,7 @@
 --   merged_length t n ps — the greatest of n and the reaches of the picks whose last is t
 --   merged_word t w ps   — the bits of the word w and of the words of the picks whose last is t
 --   merge b ps           — the line that the picks merge to over the base b: a pair, length and word
---   MergesAlike         — the same picks in another order merge alike
+--   MergesAlike          — the same picks in another order merge alike
 use Rattle.std.specs.Prelude.{◌≡◌, ℕ, max, cond, List, [], ◌∷◌, ◌==◌, bit_or}
 use mathlib.Core.List.{Perm}
 use Rattle.record.specs.declared.Record.{Record}

@@ -1,7 +1,7 @@
 -- Every call keeps the rules: it makes a move that they allow, or none.
 --   model x          — a bench's state, without its storage
 --   Step u V x y     — the state x goes to y by a move that the rules allow
---   CallsKeepRules — whatever the life, and however long it has gone on, the next call is such a step
+--   CallsKeepRules   — whatever the life, and however long it has gone on, the next call is such a step
 use Rattle.std.specs.Prelude.{◌≡◌, ℕ}
 use Rattle.protocol.specs.Setup.{Setup}
 use Rattle.protocol.specs.Service.{Service}

@@ -3,7 +3,7 @@
 --   sheet_free t                   — how many places of t are not used
 --   sheet_after t r                — t after r is entered: a new statement stands in its next place, all else is as it was
 --   together s t                   — the members of s and those of t
---   BelowFirst s m t r s' m' t'   — how r was entered, where the register below had the set s and m free places: then it has s' and m', and the sheet t is t'. What the sheet holds is not entered below; what the register below grants is not kept in the sheet
+--   BelowFirst s m t r s' m' t'    — how r was entered, where the register below had the set s and m free places: then it has s' and m', and the sheet t is t'. What the sheet holds is not entered below; what the register below grants is not kept in the sheet
 use Rattle.std.specs.Prelude.{◌≡◌, ℕ, ◌+◌, cond, ◌||◌, is_ok}
 use Rattle.record.specs.declared.Record.{Record}
 use Rattle.register.specs.Sets.{Set, adds, entering, held_after, free_after}
