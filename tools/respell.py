@@ -5,10 +5,11 @@ usage: python3 tools/respell.py [TOP]    (TOP: the top of a checkout, this one i
 
 A dash in a name becomes an underscore, and a fact, a type or a record of facts, whose name begins
 with a capital, is spelled in camel case: keeps-layout is keeps_layout, Below-first is BelowFirst.
-Only names that a file of specs/ or proofs/ declares are respelled. The names of goals, invariants
-and steps, which the toolchain makes, keep theirs, and so do functions, strings and plain words in
-comments. Where a file takes a name of the same spelling from elsewhere, it is left alone there and
-reported. It is run once, after the toolchain's own script; a second run changes nothing.
+The names are those that a file of specs/ or proofs/ declares, but for goals. A token is turned
+wherever it is spelled like one of them, in code, strings and comments; of plain words in comments
+only PLAIN_WORDS are kept. So look by hand for the names of steps, which the toolchain makes, and
+for strings. Where a file takes a name of the same spelling from elsewhere, it is left alone there
+and reported. It is run once, after the toolchain's own script; a second run changes nothing.
 """
 
 import os

@@ -110,7 +110,7 @@ fn one_place_of_the_callers_memory_changes(rt: HostRuntime) -> Result<(), Fail> 
 }
 
 #[test]
-fn quorums_are_of_replicas_below_n(rt: HostRuntime) -> Result<(), Fail> {
+fn quorums_are_of_replicas_below_n(rt: HostRuntime) {
     let mut places = [statement(kind::DROP, 0, 0); 4];
     let mut table = Table::new(&mut places);
     for signer in [3, 0, 9, 2] {
@@ -129,11 +129,7 @@ fn quorums_are_of_replicas_below_n(rt: HostRuntime) -> Result<(), Fail> {
                 assert!(rt; found[i] < 4);
             }
             assert!(rt; found[0] != found[1] && found[1] != found[2] && found[2] != found[0]);
-            Ok(())
         }
-        None => {
-            assert!(rt; false);
-            Ok(())
-        },
+        None => assert!(rt; false),
     }
 }

@@ -33,7 +33,7 @@ use Rattle.protocol.specs.Lead.{lead}
 use Rattle.protocol.specs.Start.{start}
 use Rattle.protocol.specs.Enter.{enter}
 use Rattle.protocol.specs.Model.{stamps, says}
-use Rattle.protocol.specs.Rules as rules
+use Rattle.protocol.specs.Rules as moves
 use Rattle.protocol.specs.Rules.{Works, Open, Upto}
 use Rattle.protocol.specs.Steps.{model}
 use Rattle.protocol.proofs.Books.{known_below}
@@ -58,7 +58,7 @@ module _ (u : Setup) (V : Service) (x : State) (S : Sound u V x) where
   drops_by v s NoOp e n = said_by (drop_by 0 v s) e
 
   pub stamp_step : (op : ℕ) → Kept u V x (state_after x (stamp x op))
-  stamp_step op = stamps_one u V x S (stamp x op).grounds op (λ e. rules.stamp op (search rules))
+  stamp_step op = stamps_one u V x S (stamp x op).grounds op (λ e. moves.stamp op (search rules))
 
   pub deliver_step : (i s : ℕ) → Kept u V x (state_after x (deliver u V x i s))
   deliver_step i s =
@@ -71,9 +71,9 @@ module _ (u : Setup) (V : Service) (x : State) (S : Sound u V x) where
       let at_work : r.target ≤ r.view = search rules in
       let end : s ≡ r.length = search rules in
       let silent : x.held (drop_by i r.view s) ≡ false = search rules in
-      let P : ℕ → Type 0 = λ l. rules.Allowed u V (model x) (says i (delivered r) (reply_by i r.view l r.word (answer_at V (stamps (model x)) r.word l))) in
+      let P : ℕ → Type 0 = λ l. moves.Allowed u V (model x) (says i (delivered r) (reply_by i r.view l r.word (answer_at V (stamps (model x)) r.word l))) in
       let allowed : P r.length =
-      rules.deliver i (works i honest at_work) (through r.length (omega arith))
+      moves.deliver i (works i honest at_work) (through r.length (omega arith))
       (subst (λ (l : ℕ). x.held (drop_by i r.view l) ≡ false) end silent) in
       (low i below, subst P (sym end) allowed))
 
@@ -86,7 +86,7 @@ module _ (u : Setup) (V : Service) (x : State) (S : Sound u V x) where
       let stamped : r.length < length x.stamped = search rules in
       let at_work : r.target ≤ r.view = search rules in
       let leads : i ≡ leader u r.view = search rules in
-      rules.find i (works i honest at_work) leads (known_below x.stamped r.length stamped))
+      moves.find i (works i honest at_work) leads (known_below x.stamped r.length stamped))
 
   pub drop_step : (i : ℕ) → Kept u V x (state_after x (drop u x i))
   drop_step i =
@@ -97,7 +97,7 @@ module _ (u : Setup) (V : Service) (x : State) (S : Sound u V x) where
       let stamped : r.length < length x.stamped = search rules in
       let at_work : r.target ≤ r.view = search rules in
       let looked-for : x.held (find_by (leader u r.view) r.view r.length) ≡ true = search rules in
-      rules.drop i (works i honest at_work) looked-for (known_below x.stamped r.length stamped))
+      moves.drop i (works i honest at_work) looked-for (known_below x.stamped r.length stamped))
 
   pub decide_step : (i s : ℕ) (d : Verdict) → Kept u V x (state_after x (decide u x i s d))
   decide_step i s d =
@@ -112,7 +112,7 @@ module _ (u : Setup) (V : Service) (x : State) (S : Sound u V x) where
       let to : s ≤ r.length = search rules in
       let not-other : x.held (decision_by i r.view s (verdict_number (other_verdict d))) ≡ false = search rules in
       let drops : dropped u x r.view s d ≡ true = search rules in
-      rules.decide i s d (works i honest at_work)
+      moves.decide i s d (works i honest at_work)
       (record { from = from; to = to; known = known_below x.stamped s stamped }) leads (drops_by r.view s d drops) not-other)
 
   pub prepare_step : (i s : ℕ) (d : Verdict) → Kept u V x (state_after x (prepare u x i s d))
@@ -128,7 +128,7 @@ module _ (u : Setup) (V : Service) (x : State) (S : Sound u V x) where
       let not-other : x.held (prepare_by i r.view s (verdict_number (other_verdict d))) ≡ false = search rules in
       let decided : x.held (decision_by (leader u r.view) r.view s (verdict_number d)) ≡ true = search rules in
       let drops : dropped u x r.view s d ≡ true = search rules in
-      rules.prepare i s d (works i honest at_work)
+      moves.prepare i s d (works i honest at_work)
       (record { from = from; to = to; known = known_below x.stamped s stamped }) decided (drops_by r.view s d drops) not-other)
 
   pub commit_step : (i s : ℕ) (d : Verdict) → Kept u V x (state_after x (commit u x i s d))
@@ -144,7 +144,7 @@ module _ (u : Setup) (V : Service) (x : State) (S : Sound u V x) where
       let to : s ≤ r.length = search rules in
       let prepared : reached u x (prepare_by 0 r.view s (verdict_number d)) ≡ true = search rules in (
         low i below,
-        rules.commit i s d (works i honest at_work)
+        moves.commit i s d (works i honest at_work)
             (record { from = from; to = to; known = known_below x.stamped s stamped })
             (said_by (prepare_by 0 r.view s (verdict_number d)) prepared),
       ))
@@ -162,7 +162,7 @@ module _ (u : Setup) (V : Service) (x : State) (S : Sound u V x) where
       let to : s ≤ r.length = search rules in
       let committed : reached u x (commit_by 0 r.view s (verdict_number d)) ≡ true = search rules in (
         low i below,
-        rules.settle i s d (works i honest at_work)
+        moves.settle i s d (works i honest at_work)
             (record { from = from; to = to; known = known_below x.stamped s stamped })
             (said_by (commit_by 0 r.view s (verdict_number d)) committed),
       ))
@@ -177,7 +177,7 @@ module _ (u : Setup) (V : Service) (x : State) (S : Sound u V x) where
       let at_work : r.target ≤ r.view = search rules in
       let on_line : s < r.length = search rules in
       let operation : bit r.word s ≡ false = search rules in
-      rules.reply i s (works i honest at_work) (through s stamped) on_line operation)
+      moves.reply i s (works i honest at_work) (through s stamped) on_line operation)
 
   pub leave_step : (i t : ℕ) → Kept u V x (state_after x (leave u x i t))
   leave_step i t =
@@ -188,10 +188,10 @@ module _ (u : Setup) (V : Service) (x : State) (S : Sound u V x) where
       let honest : foreign u i ≡ false = search rules in
       let view : t ≤ 63 = search rules in
       let above : r.target < t = search rules in
-      (low i below, rules.leave i t honest above view))
+      (low i below, moves.leave i t honest above view))
 
   pub forge_step : (r : Record) → Kept u V x (state_after x (forge u x r))
-  forge_step r = forged u V x S (forge u x r).grounds r (λ e. rules.forge r (search rules))
+  forge_step r = forged u V x S (forge u x r).grounds r (λ e. moves.forge r (search rules))
 
   pub enter_step : (i n w v : ℕ) → Kept u V x (state_after x (enter u x i n w v))
   enter_step i n w v =
@@ -203,7 +203,7 @@ module _ (u : Setup) (V : Service) (x : State) (S : Sound u V x) where
       let above : r.view < v = search rules in
       let not-below : r.target ≤ v = search rules in
       let ready : reached u x (entry_by 0 v n w) ≡ true = search rules in
-      (low i below, rules.enter i v n w honest above not-below (said_by (entry_by 0 v n w) ready)))
+      (low i below, moves.enter i v n w honest above not-below (said_by (entry_by 0 v n w) ready)))
 
   pub lead_step : (i : ℕ) (ps : List Record) (n w : ℕ) → Kept u V x (state_after x (lead u x i ps n w))
   lead_step i ps n w =
@@ -215,7 +215,7 @@ module _ (u : Setup) (V : Service) (x : State) (S : Sound u V x) where
       let leaving : r.view < r.target = search rules in
       let leads : i ≡ leader u r.target = search rules in
       let merges : is_ok (merge_grounds x.held (replicas u) (quorum_size u) (length x.stamped) r.target ps (n, w)) ≡ true = search rules in
-      rules.lead i ps (n, w) (record { honest = honest; leaving = leaving }) leads (checked_from _ _ _ _ _ ps (n, w) merges))
+      moves.lead i ps (n, w) (record { honest = honest; leaving = leaving }) leads (checked_from _ _ _ _ _ ps (n, w) merges))
 
   pub start_step : (i : ℕ) (ps : List Record) (n w : ℕ) → Kept u V x (state_after x (start u x i ps n w))
   start_step i ps n w =
@@ -235,6 +235,6 @@ module _ (u : Setup) (V : Service) (x : State) (S : Sound u V x) where
       let leads = then_right grounds _ both in
       let view-start : led ≡ true = search rules in (
         low i below,
-        rules.begin i ps (n, w) (record { honest = honest; leaving = leaving }) unmarked view-start
+        moves.begin i ps (n, w) (record { honest = honest; leaving = leaving }) unmarked view-start
             (checked_from _ _ _ _ _ ps (n, w) merges),
       ))

@@ -1,14 +1,18 @@
 -- The grounds that several calls share. Each is refused on its ground at the place 0 unless its test passes; then the answer is a.
---   if_honest u i a     — there is a replica i, and it is honest
---   if_stamped x s a    — slot s is stamped
---   if_line n w a       — n and w are a line: a length of at most 64, and a word with no bit at or above it
---   if_leader u i v a   — replica i is the leader of view v
---   if_open r s a       — slot s is from r's base length through its length
---   if_none x r a       — the statement r, which would bar the call, was not said
---   if_said x r a       — the statement r was said
---   if_quorum u x r a   — a quorum said the statement r
---   if_dropped u x v s d a — where the verdict d is no-op, a quorum said DROP for slot s in view v
--- if_working r a and if_leaving r a ask for the mode of a replica.
+--   if_honest u i a         — there is a replica i, and it is honest
+--   if_stamped x s a        — slot s is stamped
+--   if_line n w a           — n and w are a line: a length of at most 64, and a word with no bit at or above it
+--   if_working r a          — the replica r is at work
+--   if_leaving r a          — the replica r is leaving
+--   if_leader u i v a       — replica i is the leader of view v
+--   if_open r s a           — slot s is from r's base length through its length
+--   if_none x r a           — the statement r, which would bar the call, was not said
+--   if_said x r a           — the statement r was said
+--   if_quorum u x r a       — a quorum said the statement r
+--   if_dropped u x v s d a  — where the verdict d is no-op, a quorum said DROP for slot s in view v
+-- Two tests that these make:
+--   reached u x r           — whether a quorum said the statement r
+--   dropped u x v s d       — whether the verdict d is an operation, or a quorum said DROP for slot s in view v
 use Rattle.std.specs.Prelude.{ℕ, ◌^◌, Bool, true, not, ◌&&◌, ◌==◌, nat_le, nat_lt}
 use Rattle.refusal.specs.Grounds.{Answer, unless}
 use Rattle.refusal.specs.declared.Ground.TheVariants.{ReplicaNumber, Honesty, ArgumentRange, NotLeader, SlotOrView, Barred, StatementsMissing}

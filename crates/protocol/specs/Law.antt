@@ -1,14 +1,16 @@
 -- The one-ledger law: nobody who commands up to f of the 3f + 1 replicas, and picks every call and its turn, can settle a slot two ways.
+-- It is stated here; nothing proves it yet.
 -- A life is a granted open over an empty register and then any list of calls, granted or refused. After k of its calls:
+--   Different is          — no number stands twice in the list is
 --   Entered y k r         — a granted call of the life y entered the statement r
 --   Signers y k r         — q different replicas below n are signers under which r was entered (the signer that stands in r does not count)
 --   Answered y k v s w a  — the answer a for slot s in view v, with the word w of the no-ops below the slot, is certified
 --   Skipped y k v s       — the no-op at slot s in view v is certified
 --   SaysYes y k c         — the call c, put next, is answered yes
 -- Of a line of 64 verdicts, as a number whose bit l is set where slot l is a no-op:
---   Agrees y line s w a — the line has an operation at slot s and the no-ops w below it, and a is what the single service answers for the slot along the line
---   OneLedger y         — the law for the life y
---   OneLedgerAlways     — every life keeps the law, of every bench that opens, with every service and every number of free places
+--   Agrees y line s w a   — the line has an operation at slot s and the no-ops w below it, and a is what the single service answers for the slot along the line
+--   OneLedger y           — the law for the life y
+--   OneLedgerAlways       — every life keeps the law, of every bench that opens, with every service and every number of free places
 -- The single service is one service, freshly cleared, that takes the slots from 0 upward and is fed the operations stamped in the life; a no-op of the line and an unstamped slot leave it as it is.
 use Rattle.std.specs.Prelude.{◌≡◌, ℕ, ◌%◌, ◌^◌, ◌<◌, ◌≤◌, true, false, ◌≢◌, List, [], ◌∷◌, length, take, Some}
 use Rattle.std.specs.List.{AllByRecursion}

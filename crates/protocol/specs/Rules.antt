@@ -5,6 +5,7 @@
 --   Upto b s           — every slot through s is stamped in the book b
 --   Said h x           — the statement x was said, under the signer that stands in it
 --   Started u h v b    — view v starts from the base b, a line's length and word: 0 and 0 for view 0, else a quorum said ENTRY for it
+--   Merging u m v ps b — ps are good picks for the view v over the base b, by what the model m holds
 --   Allowed u V m a    — the rules allow the move a in the model m, for a bench u with the service V
 use Rattle.std.specs.Prelude.{◌≡◌, ℕ, ◌%◌, ◌^◌, ◌<◌, ◌≤◌, true, false, List}
 use Rattle.std.proofs.Math.ListN as list

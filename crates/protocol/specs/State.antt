@@ -1,13 +1,15 @@
 -- The state of a bench as its rules see it, and what a call makes of it.
---   State            — the operations stamped, that of slot 0 first; the statements held and the free places of the register; the replicas by number
---   replica_at x i   — replica i
+--   State               — the operations stamped, that of slot 0 first; the statements held and the free places of the register; the replicas by number
+--   replica_at x i      — replica i
 --   with_replica x i r  — the replicas, with r for replica i
---   opened n         — the state after a granted open, where the register has n free places: nothing stamped, nothing held, every replica still
---   Action           — what a call that changes a bench comes to: its grounds in order but for the register's own, the statement that it says, and what a grant leaves of operations and replicas
---   entry_answer x o — what the register answers where the statement o, if any, is entered
---   answer_to x a    — what the call a answers: the first of its grounds, then the register's
---   state_after x a  — the state after the call a: changed where it is granted, else as it was
---   entry_of x a     — the statement that the call a enters, if it is granted and says one
+--   opened n            — the state after a granted open, where the register has n free places: nothing stamped, nothing held, every replica still
+--   Action              — what a call that changes a bench comes to: its grounds in order but for the register's own, the statement that it says, and what a grant leaves of operations and replicas
+--   entry_answer x o    — what the register answers where the statement o, if any, is entered
+--   answer_to x a       — what the call a answers: the first of its grounds, then the register's
+--   held_with x o       — the set of the register after the statement o, if any, is entered
+--   free_with x o       — the number of its free places then
+--   state_after x a     — the state after the call a: changed where it is granted, else as it was
+--   entry_of x a        — the statement that the call a enters, if it is granted and says one
 -- There is room for 16 replicas, as many as a bench can have.
 use Rattle.std.specs.Prelude.{ℕ, cond, List, [], replicate, is_ok, Some, None, Ok, Option, slice_index_or, slice_set}
 use Rattle.refusal.specs.Grounds.{Answer, and_then}

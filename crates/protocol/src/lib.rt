@@ -1,2 +1,2 @@
-//! The rules of a bench, and the law that every life of it keeps.
+//! The rules of a bench, and the statement of the law for every life of it, which is not proved yet.
 #![tactic(auto)]
