@@ -1,17 +1,14 @@
 //! Why a call is refused: a ground, which has a number, and a place.
 #![tactic(auto)]
 
-ghost use Rattle.std.specs.Prelude.{◌≡◌, Some, Decides, ◌==◌};
-ghost use Rattle.refusal.specs.Grounds.{ground_number, text};
-ghost use Rattle.std.specs.Cmp.Rules.{comparing};
-ghost use Rattle.std.proofs.Common.{rules};
-ghost use Rattle.std.specs.Ordering.{on};
+ghost use Rattle.std.specs.Prelude.{◌≡◌, Some};
+ghost use Rattle.refusal.specs.Grounds.{ground_number, refused, text};
 
 use std::error::Error;
 use std::fmt;
 
 /// A ground for refusing a call. A call tries its grounds in the order of their numbers.
-#[derive(Clone, Copy, Debug)]
+#[derive(Clone, Copy, Debug, PartialEq, Eq)]
 pub enum Ground {
     /// A tape to be read is empty or no whole number of records, or a witness buffer is too short.
     BufferLength = 1,
@@ -52,35 +49,33 @@ pub enum Ground {
 }
 
 impl Ground {
-    /// The number by which the ground is known, from 1 to 18.
-    pub fn number(self) -> u8
-        ensures { result ≡ ground_number self }
+    /// The refusal on this ground, at a place.
+    pub fn at(self, place: u64) -> Refusal
+        ensures { result ≡ refused self place }
     {
-        self as u8
+        Refusal {
+            ground: self,
+            place,
+        }
     }
 }
 
-fn same_number(a: Ground, b: Ground) -> bool
-    ensures { result ≡ (ground_number a == ground_number b) }
-{
-    a.number() == b.number()
-}
+/// The number by which a ground is known, from 1 to 18.
+impl From<Ground> for u8 {
+    ghost from_gives = { λ g n. n ≡ ground_number g };
 
-impl PartialEq for Ground {
-    ghost eq = { on ground_number ◌==◌ };
-
-    ghost laws = { Prim.search (comparing, rules) };
-
-    fn eq(&self, other: &Ground) -> bool
-        ensures value { result ≡ (ground_number self.now == ground_number other.now) }
-        ensures meaning { Decides result (self.now ≡ other.now) }
-    {
-        same_number(*self, *other)
+    fn from(ground: Ground) -> u8 {
+        ground as u8
     }
 }
 
-impl Eq for Ground {
-    ghost laws = { Prim.search (comparing, rules) };
+/// The refusal on a ground that has no place.
+impl From<Ground> for Refusal {
+    ghost from_gives = { λ g r. r ≡ refused g 0 };
+
+    fn from(ground: Ground) -> Refusal {
+        ground.at(0)
+    }
 }
 
 /// A refusal: its ground, and the place of what it is about, in a tape or a list; 0 where the
@@ -95,7 +90,7 @@ impl fmt::Display for Refusal {
     ghost output = { λ r. Some (text r) };
 
     fn fmt<W: fmt::Write>(&self, f: &mut fmt::Formatter<W>) -> fmt::Result {
-        let number = self.ground.number();
+        let number = u8::from(self.ground);
         let place = self.place;
         write!(f, "refused on ground {number} at place {place}")
     }
