@@ -1,10 +1,12 @@
 -- Laws of the bytes of a number, for every number of bytes.
-use Rattle.std.proofs.Common.{◌≡◌, ℕ, zero, suc, ◌+◌, ◌*◌, ◌/◌, ◌%◌, ◌^◌, ◌<◌, ◌≤◌, List, [], ◌∷◌, ◌++◌, length, get_or, take, drop, sym, refl, ap, ◌∙◌, mul-le-mul_right, mul_assoc, mul_comm, suc-add, pow-suc, div-add-mod', zero-add, arith, pow-add}
+use Rattle.std.proofs.Common.{◌≡◌, ℕ, zero, suc, ◌+◌, ◌*◌, ◌/◌, ◌%◌, ◌^◌, ◌<◌, ◌≤◌, List, ◌∷◌, ◌++◌, length, get_or, take, drop, sym, refl, ap, ◌∙◌, mul_assoc, mul_comm, suc-add, pow-suc, zero-add, arith, pow-add, inl, inr, lit<}
 use native.Mathlib.Nat.{one-le-pow, div-div-eq-div-mul, mul-add-div_right}
-use Rattle.std.specs.List.{AllByRecursion}
-use Rattle.std.proofs.lemmas.Nat.{div-mul-add, mod_below, div_below}
+use Rattle.std.proofs.lemmas.Bool.{cases_lt}
+use Rattle.std.proofs.lemmas.List.{get_or-take, get_or-drop, length-take-le, length-drop}
+use Rattle.std.proofs.Math.ListN.{get_or-eq_default}
+use Rattle.std.proofs.lemmas.Nat.{div-mul-add, be_bytes_4, be_bytes_8, from_be_bytes-to_be_bytes_4, from_be_bytes-to_be_bytes_8}
 use Rattle.record.specs.Bytes.{be}
-use Rattle.record.proofs.Lists.{elements, elements_cut, length_elements, all_elements}
+use Rattle.std.specs.Int.{w32, w64, to_be_bytes, from_be_bytes}
 
 positive : (k : ℕ) → 0 < 256 ^ k
 positive k = one-le-pow k 256 (omega arith)
@@ -36,64 +38,39 @@ be_append (suc j) k m n h =
     let rest : be (j + k) x ≡ be j m ++ be k n = be_append j k m n h in
     ap (λ (i : ℕ). be i x) (suc-add j k) ∙ ap (λ (p : ℕ). p % 256 ∷ be (j + k) x) shift ∙ ap (λ (l : List ℕ). m / 256 ^ j % 256 ∷ l) rest
 
--- numbers of k bytes with the same bytes are the same
-pub be_one : (k m n : ℕ) → m < 256 ^ k → n < 256 ^ k → be k m ≡ be k n → m ≡ n
-unfolding be
-be_one zero m n hm hn e = omega arith
-be_one (suc k) m n hm hn e =
-    let p = 256 ^ k in
-    let s = pow-suc 256 k in
-    let first : m / p % 256 ≡ n / p % 256 = cc in
-    let rest : be k m ≡ be k n = cc in
-    let qm : m / p < 256 = div_below m p 256 (positive k) (omega (arith, mul_comm p 256)) in
-    let qn : n / p < 256 = div_below n p 256 (positive k) (omega (arith, mul_comm p 256)) in
-    let q : m / p ≡ n / p = omega arith in
-    let low : (x : ℕ) → be k (x % p) ≡ be k x = λ x. sym (be_low k (x / p) (x % p)) ∙ ap (be k) (div-add-mod' x p) in
-    let t : m % p ≡ n % p = be_one k (m % p) (n % p) (mod_below m p (positive k)) (mod_below n p (positive k)) (low m ∙ rest ∙ sym (low n)) in
-    sym (div-add-mod' m p) ∙ ap (λ (x : ℕ). x * p + m % p) q ∙ ap (λ (x : ℕ). n / p * p + x) t ∙ div-add-mod' n p
-
--- the number that bytes write
-abbrev pub number : List ℕ → ℕ
-number [] = 0
-number (x ∷ xs) = x * 256 ^ length xs + number xs
-
-abbrev pub Byte : ℕ → Type 0
-Byte x = x < 256
-
-pub number_below : (xs : List ℕ) → AllByRecursion Byte xs → number xs < 256 ^ length xs
-number_below [] a = omega arith
-number_below (x ∷ xs) a =
-    let r = number_below xs a.1 in
-    let s = pow-suc 256 (length xs) in
-    let p = 256 ^ length xs in
-    let small : x ≤ 255 = omega (arith, a.0) in
-    let m : x * p ≤ 255 * p = mul-le-mul_right p small in
-    omega (arith, mul_comm p 256)
-
-pub be_number : (xs : List ℕ) → AllByRecursion Byte xs → be (length xs) (number xs) ≡ xs
-unfolding be
-be_number [] a = refl
-be_number (x ∷ xs) a =
-    let p = 256 ^ length xs in
-    let r = number_below xs a.1 in
-    let d = div-mul-add x p (number xs) r in
-    let first : (x * p + number xs) / p % 256 ≡ x = omega (arith, a.0) in
-    let rest : be (length xs) (x * p + number xs) ≡ xs = be_low (length xs) x (number xs) ∙ be_number xs a.1 in
-    cc
-
--- x is what n bytes of a list write, from i on
-pub be_read : (n i x : ℕ) (b : List ℕ) → ((j : ℕ) → get_or b j 0 < 256) → i + n ≤ length b → x ≡ number (elements n 0 i b) → be n x ≡ take n (drop i b)
-be_read n i x b bytes h is =
-    ap (be n) is
-    ∙ ap (λ (k : ℕ). be k (number (elements n 0 i b))) (sym (length_elements n 0 i b))
-    ∙ be_number (elements n 0 i b) (all_elements Byte n 0 i b bytes)
-    ∙ elements_cut n i b h
-
--- the bytes as the code has them
-pub be4_is : (n : ℕ) → be 4 n ≡ n / 16777216 % 256 ∷ n / 65536 % 256 ∷ n / 256 % 256 ∷ n % 256 ∷ []
+-- the bytes of a number as the code writes them, and the number that it reads from them
+pub be4_is : (n : ℕ) → be 4 n ≡ to_be_bytes w32 n
 unfolding be
 be4_is n = let last : n / 1 % 256 ≡ n % 256 = omega arith in cc
 
-pub be8_is : (n : ℕ) → be 8 n ≡ n / 72057594037927936 % 256 ∷ n / 281474976710656 % 256 ∷ n / 1099511627776 % 256 ∷ n / 4294967296 % 256 ∷ n / 16777216 % 256 ∷ n / 65536 % 256 ∷ n / 256 % 256 ∷ n % 256 ∷ []
+pub be8_is : (n : ℕ) → be 8 n ≡ to_be_bytes w64 n
 unfolding be
 be8_is n = let last : n / 1 % 256 ≡ n % 256 = omega arith in cc
+
+-- n bytes of a list, from i on, are n and are bytes
+module _ (b : List ℕ) (bytes : (j : ℕ) → get_or b j 0 < 256) (n i : ℕ) (within : i + n ≤ length b) where
+  part_length : length (take n (drop i b)) ≡ n
+  part_length = length-take-le n (drop i b) (omega (arith, length-drop i b))
+
+  part_bytes : (j : ℕ) → get_or (take n (drop i b)) j 0 < 256
+  part_bytes j = elim (cases_lt j n) [
+    | inl low ↦ rw (get_or-take n (drop i b) j 0 low, get_or-drop i b j 0) (bytes (i + j))
+    | inr high ↦ let past : length (take n (drop i b)) ≤ j = omega (arith, part_length) in rw (get_or-eq_default (take n (drop i b)) 0 past) (lit< tt)
+  ]
+
+pub be4_read : (b bs : List ℕ) (i n : ℕ) → ((j : ℕ) → get_or b j 0 < 256) → i + 4 ≤ length b → bs ≡ take 4 (drop i b) → n ≡ from_be_bytes w32 bs → be 4 n ≡ take 4 (drop i b)
+be4_read b bs i n bytes h is e =
+    be4_is n ∙ be_bytes_4 (take 4 (drop i b)) n (part_length b bytes 4 i h) (part_bytes b bytes 4 i h) (e ∙ ap (from_be_bytes w32) is)
+
+pub be8_read : (b bs : List ℕ) (i n : ℕ) → ((j : ℕ) → get_or b j 0 < 256) → i + 8 ≤ length b → bs ≡ take 8 (drop i b) → n ≡ from_be_bytes w64 bs → be 8 n ≡ take 8 (drop i b)
+be8_read b bs i n bytes h is e =
+    be8_is n ∙ be_bytes_8 (take 8 (drop i b)) n (part_length b bytes 8 i h) (part_bytes b bytes 8 i h) (e ∙ ap (from_be_bytes w64) is)
+
+-- numbers with the same bytes are the same
+pub be4_one : (m n : ℕ) → m < 2 ^ 32 → n < 2 ^ 32 → be 4 m ≡ be 4 n → m ≡ n
+be4_one m n hm hn e =
+    sym (from_be_bytes-to_be_bytes_4 m hm) ∙ ap (from_be_bytes w32) (sym (be4_is m) ∙ e ∙ be4_is n) ∙ from_be_bytes-to_be_bytes_4 n hn
+
+pub be8_one : (m n : ℕ) → m < 2 ^ 64 → n < 2 ^ 64 → be 8 m ≡ be 8 n → m ≡ n
+be8_one m n hm hn e =
+    sym (from_be_bytes-to_be_bytes_8 m hm) ∙ ap (from_be_bytes w64) (sym (be8_is m) ∙ e ∙ be8_is n) ∙ from_be_bytes-to_be_bytes_8 n hn

@@ -4,3 +4,4 @@ pub mod Lists
 pub mod Heads
 pub mod Packs
 pub mod Same
+pub mod Chunks

@@ -1,4 +1,5 @@
 pub mod Bytes
+pub mod Kinds
 pub mod Layout
 pub mod Same
 pub mod Statements

@@ -1,8 +1,24 @@
 ghost use Rattle.std.specs.Prelude.{◌≡◌, ◌^◌, Decides, nat_lt};
 ghost use Rattle.record.specs.Layout.{Layout, keeps_layout, passes};
 
-use crate::Record;
-use crate::kind::*;
+use crate::{Kind, Record};
+
+// The layout is one match over ranges of kinds, and the ends of a range are constants.
+const REPLY: u8 = Kind::Reply as u8;
+
+const FIND: u8 = Kind::Find as u8;
+
+const DROP: u8 = Kind::Drop as u8;
+
+const DECISION: u8 = Kind::Decision as u8;
+
+const COMMIT: u8 = Kind::Commit as u8;
+
+const VIEW_CHANGE: u8 = Kind::ViewChange as u8;
+
+const VIEW_START: u8 = Kind::ViewStart as u8;
+
+const ENTRY: u8 = Kind::Entry as u8;
 
 impl Record {
     /// Whether the record keeps the layout.

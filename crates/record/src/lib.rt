@@ -1,20 +1,21 @@
 //! Statements as records, and records as 20 bytes.
 #![tactic(auto)]
 
-pub mod kind;
+mod kind;
 mod layout;
 mod pack;
 mod tape;
 
+pub use kind::{Kind, UnknownKind};
 pub use tape::{Part, Reader, part_at};
 
 /// The number of bytes that a record is packed into.
 pub const SIZE: usize = 20;
 
 /// A record: the fields of a statement as plain numbers, which may break the layout.
-#[derive(Clone, Copy, PartialEq, Eq, Debug)]
+#[derive(Clone, Copy, Debug, Default, PartialEq, Eq)]
 pub struct Record {
-    /// Which statement it is, by its number in `kind`.
+    /// The number of its kind.
     pub kind: u8,
     /// The replica that says it.
     pub signer: u8,

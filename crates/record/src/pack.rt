@@ -14,10 +14,7 @@ impl Record {
         ensures alone { IfOk result (λ b. (r : Record) → Packs r b → r ≡ self.now) }
     {
         if !self.keeps_layout() {
-            return Err(Refusal {
-                ground: Ground::Layout,
-                place: 0,
-            });
+            return Err(Ground::Layout.into());
         }
         Ok(bytes_of(self))
     }
@@ -26,16 +23,22 @@ impl Record {
     pub fn unpack(bytes: &[u8; SIZE]) -> Result<Record, Refusal>
         ensures { Unpacks 0 bytes.now result }
     {
-        let head = read4(bytes, 0);
-        let record = with_head(head, read8(bytes, 4), read8(bytes, 12));
-        if zero_filled(head) && record.keeps_layout() {
-            Ok(record)
-        } else {
-            Err(Refusal {
-                ground: Ground::Layout,
-                place: 0,
-            })
-        }
+        unpack_at(bytes, 0)
+    }
+}
+
+// The record that packs to these bytes. Bytes to which none packs are refused at the place.
+pub(crate) fn unpack_at(bytes: &[u8; SIZE], place: u64) -> Result<Record, Refusal>
+    ensures { Unpacks place bytes.now result }
+{
+    let head = u32::from_be_bytes(part(bytes, 0));
+    let word = u64::from_be_bytes(part(bytes, 4));
+    let res = u64::from_be_bytes(part(bytes, 12));
+    let record = with_head(head, word, res);
+    if zero_filled(head) && record.keeps_layout() {
+        Ok(record)
+    } else {
+        Err(Ground::Layout.at(place))
     }
 }
 
@@ -87,27 +90,12 @@ fn with_head(head: u32, word: u64, res: u64) -> Record
     }
 }
 
-// The number that the four bytes from `i` on write.
-fn read4(b: &[u8; SIZE], i: usize) -> u32
-    requires { i + 4 ≤ 20 }
-    ensures { be 4 result ≡ take 4 (drop i b.now) }
+// The N bytes from `i` on.
+fn part<const N: usize>(bytes: &[u8; SIZE], i: usize) -> [u8; N]
+    requires { i + N ≤ 20 }
+    ensures { result ≡ take N (drop i bytes.now) }
 {
-    u32::from_be_bytes([b[i], b[i + 1], b[i + 2], b[i + 3]])
-}
-
-// The number that the eight bytes from `i` on write.
-fn read8(b: &[u8; SIZE], i: usize) -> u64
-    requires { i + 8 ≤ 20 }
-    ensures { be 8 result ≡ take 8 (drop i b.now) }
-{
-    u64::from_be_bytes([
-        b[i],
-        b[i + 1],
-        b[i + 2],
-        b[i + 3],
-        b[i + 4],
-        b[i + 5],
-        b[i + 6],
-        b[i + 7],
-    ])
+    let mut part = [0; N];
+    part.copy_from_slice(&bytes[i..i + N]);
+    part
 }

@@ -3,7 +3,9 @@ ghost use Rattle.record.specs.Packed.{Unpacks};
 ghost use Rattle.record.specs.Tapes.{places, place};
 ghost use Rattle.record.specs.Reads.{Begins, Reads};
 ghost use Rattle.std.specs.Iterator.{at_most};
+ghost use Rattle.std.specs.Simd.{first_chunks};
 
+use crate::pack::unpack_at;
 use crate::{Record, SIZE};
 use refusal::{Ground, Refusal};
 
@@ -19,14 +21,15 @@ impl Part<'_> {
     pub fn record(&self) -> Result<Record, Refusal>
         ensures { Unpacks self.now.position self.now.bytes.now result }
     {
-        match Record::unpack(self.bytes) {
-            Ok(record) => Ok(record),
-            Err(refusal) => Err(Refusal {
-                place: self.position,
-                ..refusal
-            }),
-        }
+        unpack_at(self.bytes, self.position)
     }
+}
+
+// The parts of 20 bytes that a tape is cut into. What is too short for one at its end is none.
+fn parts(tape: &[u8]) -> &[[u8; SIZE]]
+    ensures { result.now ≡ first_chunks 20 (places tape.now) tape.now }
+{
+    tape.as_chunks::<SIZE>().0
 }
 
 /// The 20 bytes at a position of a tape, if there are so many. What is too short for a record at
@@ -34,10 +37,7 @@ impl Part<'_> {
 pub fn part_at(tape: &[u8], position: usize) -> Option<&[u8; SIZE]>
     ensures { MatchOption result (places tape.now ≤ position) (λ b. (position < places tape.now) × (b.now ≡ place position tape.now)) }
 {
-    if position >= tape.len() / SIZE {
-        return None;
-    }
-    tape[SIZE * position..].first_chunk::<SIZE>()
+    parts(tape).get(position)
 }
 
 /// Hands out the parts of a tape in turn.
@@ -53,10 +53,7 @@ impl<'a> Reader<'a> {
         ensures { Begins tape.now result }
     {
         if tape.is_empty() || tape.len() % SIZE != 0 {
-            return Err(Refusal {
-                ground: Ground::BufferLength,
-                place: 0,
-            });
+            return Err(Ground::BufferLength.into());
         }
         Ok(Reader { tape, position: 0 })
     }

@@ -1,16 +1,19 @@
-use Rattle.std.proofs.Common.{◌≡◌, ℕ, ◌*◌, ◌<◌, ◌≤◌, List, length, take, drop, Some, None, Option, ap, ◌∙◌, arith, length-drop, Bor, MatchOption}
-use Rattle.std.specs.Array.{IsFirstChunk}
-use Rattle.std.proofs.lemmas.List.{take_rest}
+use Rattle.std.proofs.Common.{◌≡◌, ℕ, ◌<◌, ◌≤◌, List, length, Some, None, Option, get_or, ap, ◌∙◌, arith, Bor, MatchOption}
+use Rattle.std.specs.Simd.{first_chunks}
+use Rattle.std.specs.Slice.{IsItemAt}
 use Rattle.record.specs.Tapes.{places, place}
+use Rattle.record.proofs.Chunks.{chunk_at, length_chunks}
 use Rattle.record.proofs.tape.part_at.Goals as goal
 
--- the first 20 bytes from a position on are those at the position
-first : (o : Option (Bor (List ℕ))) (b rest : List ℕ) (i : ℕ) → i < places b → rest ≡ drop (20 * i) b → MatchOption o (length rest < 20) (λ y. IsFirstChunk rest y.now 20) → MatchOption o (places b ≤ i) (λ y. (i < places b) × (y.now ≡ place i b))
-first None b rest i h e c = let n = ap length e ∙ length-drop (20 * i) b in omega arith
-first (Some y) b rest i h e c = (h, c.same ∙ ap (take 20) e)
+-- what `get` finds among the chunks of 20 bytes
+at_place : (b : List ℕ) (i : ℕ) (xs : List (List ℕ)) (o : Option (Bor (List ℕ))) → xs ≡ first_chunks 20 (places b) b → IsItemAt xs i o → MatchOption o (places b ≤ i) (λ y. (i < places b) × (y.now ≡ place i b))
+at_place b i xs None e p =
+    let n : length xs ≡ places b = ap length e ∙ length_chunks 20 (places b) b in
+    omega (arith, p.3)
+at_place b i xs (Some y) e p =
+    let n : length xs ≡ places b = ap length e ∙ length_chunks 20 (places b) b in
+    let below : i < places b = omega (arith, p.3.0) in
+    (below, p.1 ∙ ap (λ (l : List (List ℕ)). get_or l i y.now) e ∙ chunk_at 20 (places b) i b y.now below)
 
 pub returns : goal.returns
-returns c =
-    let b = c.args.tape.now in
-    let i = c.args.position in
-    first c.first_chunk.result b _ i (omega (arith, c.if-position-tape.false)) (take_rest b (20 * i)) c.first_chunk.ensures.cases
+returns c = at_place c.args.tape.now c.args.position _ _ c.parts.ensures c.get.ensures.lookup

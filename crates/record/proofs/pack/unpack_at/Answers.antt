@@ -1,21 +1,24 @@
-use Rattle.std.proofs.Common.{sym, refl, ap, ◌∙◌}
+use Rattle.std.proofs.Common.{arith, sym, ap, ◌∙◌}
 use Rattle.std.proofs.lemmas.Bool.{both_ways, eqb-true, eqb-false}
 use Rattle.record.specs.Layout.{keeps_layout}
 use Rattle.record.specs.Packed.{packed}
+use Rattle.record.proofs.Bytes.{be4_read, be8_read}
 use Rattle.record.proofs.Packs.{Splits, split_record, split_packed, split_even}
-use Rattle.record.proofs.Record.unpack.Goals as goal
-use Rattle.record.proofs.Record.unpack.Goals.{else-zero_filled-via-then-zero_filled+else-keeps_layout, else-zero_filled-via-else-zero_filled, After-with_head-record}
+use Rattle.record.proofs.pack.unpack_at.Goals as goal
+use Rattle.record.proofs.pack.unpack_at.Goals.{else-zero_filled-via-then-zero_filled+else-keeps_layout, else-zero_filled-via-else-zero_filled, After-with_head-record}
 
 -- the bytes as they were read
-read : (c : After-with_head-record) → Splits c.args.bytes.now c.read4-head.result c.read8.result c.read8-2.result
-read c = record {
-  head = c.read4-head.ensures;
-  word = c.read8.ensures;
-  result = c.read8-2.ensures;
-  head_fits = c.read4-head.type_inv;
-  word_fits = c.read8.type_inv;
-  result_fits = c.read8-2.type_inv;
-}
+read : (c : After-with_head-record) → Splits c.args.bytes.now c.from_be_bytes-head.result c.from_be_bytes-word.result c.from_be_bytes-res.result
+read c =
+    let within = c.told-bytes in
+    record {
+      head = be4_read _ _ 0 _ c.fits-bytes (omega arith) c.part.ensures c.from_be_bytes-head.ensures;
+      word = be8_read _ _ 4 _ c.fits-bytes (omega arith) c.part-2.ensures c.from_be_bytes-word.ensures;
+      result = be8_read _ _ 12 _ c.fits-bytes (omega arith) c.part-3.ensures c.from_be_bytes-res.ensures;
+      head_fits = c.from_be_bytes-head.type_inv;
+      word_fits = c.from_be_bytes-word.type_inv;
+      result_fits = c.from_be_bytes-res.type_inv;
+    }
 
 pub returns-then-keeps_layout : goal.returns-then-keeps_layout
 returns-then-keeps_layout c =
@@ -28,7 +31,7 @@ returns-then-keeps_layout c =
 pub returns-else-zero_filled : goal.returns-else-zero_filled
 returns-else-zero_filled c =
     let s = read (goal.at.returns-else-zero_filled c).After-with_head-record in (
-      refl,
+      c.at.ensures,
       λ r p. elim c.else-zero_filled.branch [
         | else-zero_filled-via-then-zero_filled+else-keeps_layout w ↦
             let same = c.with_head-record.ensures ∙ split_record _ _ _ _ s r p in
