@@ -1,89 +1,64 @@
-//! One text for every register: the same steps are run over a table, a tape and a spare sheet.
+//! One text for every register: the same is done with a table, a tape and a spare sheet.
 use quorum::{count, reached, witnesses};
-use record::{Record, kind};
-use refusal::{Ground, Refusal};
+use record::{Kind, Record};
+use refusal::Ground;
 use register::Register;
 use registers::{SpareSheet, Table};
 use std::process::Abort;
 use std::test::Fail;
 use tape::Tape;
 
-fn statement(kind: u8, signer: u8, slot: u8) -> Record {
+// The statement of a signer about a slot in view 0.
+fn statement(kind: Kind, signer: u8, slot: u8) -> Record {
     Record {
-        kind,
+        kind: kind as u8,
         signer,
-        view: 0,
-        last: 0,
         slot,
-        verdict: 0,
-        word: 0,
-        result: 0,
+        ..Record::default()
     }
 }
 
-// What is done with a register, and what it has to answer.
-#[derive(Clone, Copy)]
-enum Step {
-    // Enters statements of the slots from 0 on, as many as fit beside one other.
-    Fill,
-    Enter(Record, Result<(), Ground>),
-    Ask(Record, bool),
-    Empty(bool),
+// Enters one statement twice into an empty register, and one that breaks the layout.
+fn enters_once<R: Register>(rt: &impl Abort, register: &mut R, said: &Record, broken: &Record) {
+    assert!(rt; register.is_empty());
+    assert!(rt; !register.ask(said));
+    assert_eq!(rt; register.enter(broken), Err(Ground::Layout.into()));
+    assert!(rt; !register.ask(broken));
+    assert!(rt; register.is_empty());
+    assert_eq!(rt; register.enter(said), Ok(()));
+    assert_eq!(rt; register.enter(said), Ok(()));
+    assert!(rt; register.ask(said));
 }
 
-fn steps() -> [Step; 16] {
-    let said = statement(kind::REPLY, 2, 1);
-    let unsaid = statement(kind::REPLY, 3, 1);
-    let broken = statement(0, 2, 1);
-    let full = Err(Ground::RegisterFull);
-    [
-        Step::Empty(true),
-        Step::Ask(said, false),
-        Step::Enter(broken, Err(Ground::Layout)),
-        Step::Ask(broken, false),
-        Step::Empty(true),
-        Step::Enter(said, Ok(())),
-        Step::Enter(said, Ok(())),
-        Step::Ask(said, true),
-        Step::Ask(unsaid, false),
-        Step::Fill,
-        Step::Enter(unsaid, full),
-        Step::Ask(unsaid, false),
-        Step::Enter(said, Ok(())),
-        Step::Enter(statement(kind::DROP, 2, 0), Ok(())),
-        Step::Enter(broken, Err(Ground::Layout)),
-        Step::Empty(false),
-    ]
-}
-
-fn fill<R: Register>(rt: &impl Abort, register: &mut R, slots: u8) {
+// Enters statements of the slots from 0 on into a register with room for just so many.
+fn fills<R: Register>(rt: &impl Abort, register: &mut R, slots: u8) {
     for slot in 0..slots {
-        let dropped = statement(kind::DROP, 2, slot);
+        let dropped = statement(Kind::Drop, 2, slot);
         assert!(rt; !register.ask(&dropped));
         assert_eq!(rt; register.enter(&dropped), Ok(()));
         assert!(rt; register.ask(&dropped));
     }
 }
 
-// Runs the steps over a register with room for `slots` statements and one more.
+// Uses a register with room for `slots` statements and one more.
 fn run<R: Register>(rt: &impl Abort, register: &mut R, slots: u8) {
-    for step in steps() {
-        match step {
-            Step::Fill => fill(rt, register, slots),
-            Step::Enter(record, Ok(())) => assert_eq!(rt; register.enter(&record), Ok(())),
-            Step::Enter(record, Err(ground)) => assert_eq!(rt;
-                register.enter(&record),
-                Err(Refusal { ground, place: 0 })
-            ),
-            Step::Ask(record, answer) => assert_eq!(rt; register.ask(&record), answer),
-            Step::Empty(answer) => assert_eq!(rt; register.is_empty(), answer),
-        }
-    }
+    let said = statement(Kind::Reply, 2, 1);
+    let unsaid = statement(Kind::Reply, 3, 1);
+    let broken = Record { kind: 0, ..said };
+    enters_once(rt, register, &said, &broken);
+    assert!(rt; !register.ask(&unsaid));
+    fills(rt, register, slots);
+    assert_eq!(rt; register.enter(&unsaid), Err(Ground::RegisterFull.into()));
+    assert!(rt; !register.ask(&unsaid));
+    assert_eq!(rt; register.enter(&said), Ok(()));
+    assert_eq!(rt; register.enter(&statement(Kind::Drop, 2, 0)), Ok(()));
+    assert_eq!(rt; register.enter(&broken), Err(Ground::Layout.into()));
+    assert!(rt; !register.is_empty());
 }
 
 #[test]
 fn every_register_answers_alike(rt: HostRuntime) {
-    let junk = statement(kind::REPLY, 3, 1);
+    let junk = statement(Kind::Reply, 3, 1);
     run(&rt, &mut Table::new(&mut [junk; 18]), 17);
     run(&rt, &mut Tape::new(&mut [0xff; 379]), 17);
     run(&rt, &mut SpareSheet::new(Table::new(&mut [junk; 2])), 17);
@@ -97,8 +72,12 @@ fn every_register_answers_alike(rt: HostRuntime) {
 
 #[test]
 fn one_place_of_the_callers_memory_changes(rt: HostRuntime) -> Result<(), Fail> {
-    let said = statement(kind::REPLY, 2, 1);
-    let junk = statement(0, 9, 9);
+    let said = statement(Kind::Reply, 2, 1);
+    let junk = Record {
+        signer: 9,
+        slot: 9,
+        ..Record::default()
+    };
     let mut places = [junk; 2];
     assert_eq!(rt; Table::new(&mut places).enter(&said), Ok(()));
     assert_eq!(rt; places, [said, junk]);
@@ -111,12 +90,12 @@ fn one_place_of_the_callers_memory_changes(rt: HostRuntime) -> Result<(), Fail> 
 
 #[test]
 fn quorums_are_of_replicas_below_n(rt: HostRuntime) {
-    let mut places = [statement(kind::DROP, 0, 0); 4];
+    let mut places = [statement(Kind::Drop, 0, 0); 4];
     let mut table = Table::new(&mut places);
     for signer in [3, 0, 9, 2] {
-        assert_eq!(rt; table.enter(&statement(kind::REPLY, signer, 1)), Ok(()));
+        assert_eq!(rt; table.enter(&statement(Kind::Reply, signer, 1)), Ok(()));
     }
-    let said = statement(kind::REPLY, 1, 1);
+    let said = statement(Kind::Reply, 1, 1);
     assert_eq!(rt; count(&table, &said, 4), 3);
     assert_eq!(rt; count(&table, &said, 255), 4);
     assert!(rt; reached(&table, &said, 4, 3));
@@ -124,9 +103,9 @@ fn quorums_are_of_replicas_below_n(rt: HostRuntime) {
     assert!(rt; witnesses(&table, &said, 4, 4).is_none());
     match witnesses(&table, &said, 4, 3) {
         Some(found) => {
-            for i in 0..3 {
-                assert!(rt; table.ask(&statement(kind::REPLY, found[i], 1)));
-                assert!(rt; found[i] < 4);
+            for signer in &found[..3] {
+                assert!(rt; table.ask(&statement(Kind::Reply, *signer, 1)));
+                assert!(rt; *signer < 4);
             }
             assert!(rt; found[0] != found[1] && found[1] != found[2] && found[2] != found[0]);
         }

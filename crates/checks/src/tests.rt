@@ -1,96 +1,136 @@
 //! Records and tapes as they run: one record of each kind, records that break one rule each, and
 //! tapes of a wrong length.
-use record::{Reader, Record, kind};
+use record::{Kind, Reader, Record};
 use refusal::{Ground, Refusal};
 use std::test::Fail;
 
-const fn record(
-    kind: u8,
-    view: u8,
-    last: u8,
-    slot: u8,
-    verdict: u8,
-    word: u64,
-    res: u64,
-) -> Record {
+// A record of a kind by replica 12, every other field 0.
+fn of(kind: Kind) -> Record {
     Record {
-        kind,
+        kind: kind as u8,
         signer: 12,
-        view,
-        last,
-        slot,
-        verdict,
-        word,
-        result: res,
+        ..Record::default()
     }
 }
 
-fn layout(place: u64) -> Refusal {
-    Refusal {
-        ground: Ground::Layout,
-        place,
-    }
+// The same with a view.
+fn of_view(kind: Kind, view: u8) -> Record {
+    Record { view, ..of(kind) }
+}
+
+// One record of each kind, in the order of their numbers.
+fn one_of_each_kind() -> [Record; 9] {
+    let slot = 63;
+    let word = 0x7fff_ffff_ffff_ffff;
+    let result = u64::MAX;
+    let full = of_view(Kind::Reply, 63);
+    [
+        Record {
+            slot,
+            word,
+            result,
+            ..full
+        },
+        Record {
+            slot,
+            ..of(Kind::Find)
+        },
+        of_view(Kind::Drop, 1),
+        Record {
+            slot: 5,
+            verdict: 1,
+            ..of_view(Kind::Decision, 2)
+        },
+        Record {
+            slot: 5,
+            ..of_view(Kind::Prepare, 2)
+        },
+        Record {
+            slot: 5,
+            verdict: 1,
+            ..of_view(Kind::Commit, 2)
+        },
+        Record {
+            last: 62,
+            slot: 64,
+            word: u64::MAX,
+            ..of_view(Kind::ViewChange, 63)
+        },
+        Record {
+            slot: 64,
+            word: 1 << 63,
+            ..of_view(Kind::ViewStart, 1)
+        },
+        of_view(Kind::Entry, 1),
+    ]
 }
 
 #[test]
 fn each_kind_comes_back(rt: HostRuntime) -> Result<(), Fail> {
-    let records = [
-        record(kind::REPLY, 63, 0, 63, 0, 0x7fff_ffff_ffff_ffff, u64::MAX),
-        record(kind::FIND, 0, 0, 63, 0, 0, 0),
-        record(kind::DROP, 1, 0, 0, 0, 0, 0),
-        record(kind::DECISION, 2, 0, 5, 1, 0, 0),
-        record(kind::PREPARE, 2, 0, 5, 0, 0, 0),
-        record(kind::COMMIT, 2, 0, 5, 1, 0, 0),
-        record(kind::VIEW_CHANGE, 63, 62, 64, 0, u64::MAX, 0),
-        record(kind::VIEW_START, 1, 0, 64, 0, 1 << 63, 0),
-        record(kind::ENTRY, 1, 0, 0, 0, 0, 0),
-    ];
-    for (i, r) in records.iter().enumerate() {
+    let records = one_of_each_kind();
+    for (number, r) in (1..10u8).zip(&records) {
         let bytes = r.pack()?;
-        assert_eq!(rt;
-            usize::from(bytes[0] / 16),
-            i + 1,
-            "the kinds are 1 to 9 in this order"
-        );
+        assert_eq!(rt; bytes[0] / 16, number, "the kinds are 1 to 9 in this order");
         assert_eq!(rt; Record::unpack(&bytes)?, *r);
     }
     Ok(())
 }
 
+// Records that break one rule each.
+fn broken() -> [Record; 12] {
+    let reply = of(Kind::Reply);
+    let entry = of_view(Kind::Entry, 1);
+    [
+        Record { kind: 0, ..reply },
+        Record {
+            kind: 10,
+            view: 1,
+            ..reply
+        },
+        Record { view: 64, ..reply },
+        Record { slot: 64, ..reply },
+        Record {
+            slot: 3,
+            word: 8,
+            ..reply
+        },
+        Record {
+            result: 1,
+            ..of(Kind::Find)
+        },
+        Record {
+            verdict: 1,
+            ..of(Kind::Drop)
+        },
+        Record {
+            verdict: 2,
+            ..of(Kind::Commit)
+        },
+        Record {
+            last: 1,
+            ..of_view(Kind::ViewChange, 1)
+        },
+        of(Kind::ViewStart),
+        Record { last: 1, ..entry },
+        Record { slot: 65, ..entry },
+    ]
+}
+
 #[test]
 fn each_broken_rule_is_refused(rt: HostRuntime) {
-    let records = [
-        record(0, 0, 0, 0, 0, 0, 0),
-        record(10, 1, 0, 0, 0, 0, 0),
-        record(1, 64, 0, 0, 0, 0, 0),
-        record(1, 0, 0, 64, 0, 0, 0),
-        record(1, 0, 0, 3, 0, 8, 0),
-        record(2, 0, 0, 0, 0, 0, 1),
-        record(3, 0, 0, 0, 1, 0, 0),
-        record(6, 0, 0, 0, 2, 0, 0),
-        record(7, 1, 1, 0, 0, 0, 0),
-        record(8, 0, 0, 0, 0, 0, 0),
-        record(9, 1, 1, 0, 0, 0, 0),
-        record(9, 1, 0, 65, 0, 0, 0),
-    ];
-    for r in records {
-        assert_eq!(rt; r.pack(), Err(layout(0)));
+    for r in broken() {
+        assert_eq!(rt; r.pack(), Err(Ground::Layout.into()));
     }
 }
 
 #[test]
 fn tapes_are_read_by_position(rt: HostRuntime) -> Result<(), Fail> {
-    let short = Refusal {
-        ground: Ground::BufferLength,
-        place: 0,
-    };
+    let short = Refusal::from(Ground::BufferLength);
     assert!(rt; matches!(Reader::new(&[]), Err(e) if e == short));
     assert!(rt; matches!(Reader::new(&[0x12; 39]), Err(e) if e == short));
-    let mut read = 0u64;
-    for part in Reader::new(&[0; 60])? {
-        assert_eq!(rt; part.record(), Err(layout(read)));
-        read = read.saturating_add(1);
+    for (place, part) in (0..3).zip(Reader::new(&[0; 60])?) {
+        assert_eq!(rt; part.record(), Err(Ground::Layout.at(place)));
     }
-    assert_eq!(rt; read, 3);
+    assert_eq!(rt; Reader::new(&[0; 60])?.count(), 3);
     Ok(())
 }

@@ -1,6 +1,6 @@
 //! Statements of four replicas in a register with three places, and a quorum among them.
 use quorum::{count, witnesses};
-use record::{Record, kind};
+use record::{Kind, Record};
 use register::{Register, insert};
 use registers::{SpareSheet, Table};
 
@@ -11,7 +11,7 @@ const QUORUM: u8 = 3;
 /// The statement that a replica answered `answer` for slot 1 of view 0.
 pub fn answer_of(signer: u8, answer: u64) -> Record {
     Record {
-        kind: kind::REPLY,
+        kind: Kind::Reply as u8,
         signer,
         view: 0,
         last: 0,

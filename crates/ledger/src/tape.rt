@@ -1,6 +1,6 @@
 //! A statement as 20 bytes, and a tape of two of them.
 use crate::statements::answer_of;
-use record::{Part, Reader, Record, kind};
+use record::{Kind, Part, Reader, Record};
 
 fn print_bytes(rt: &HostRuntime, bytes: &[u8; 20]) -> anyhow::Result<()> {
     print!(rt; "  packed:")?;
@@ -9,21 +9,6 @@ fn print_bytes(rt: &HostRuntime, bytes: &[u8; 20]) -> anyhow::Result<()> {
     }
     println!(rt; "")?;
     Ok(())
-}
-
-fn name(kind: u8) -> &'static str {
-    match kind {
-        kind::REPLY => "REPLY",
-        kind::FIND => "FIND",
-        kind::DROP => "DROP",
-        kind::DECISION => "DECISION",
-        kind::PREPARE => "PREPARE",
-        kind::COMMIT => "COMMIT",
-        kind::VIEW_CHANGE => "VIEW-CHANGE",
-        kind::VIEW_START => "VIEW-START",
-        kind::ENTRY => "ENTRY",
-        _ => "no kind",
-    }
 }
 
 fn print_part(rt: &HostRuntime, part: Part) -> anyhow::Result<()> {
@@ -38,9 +23,9 @@ fn print_part(rt: &HostRuntime, part: Part) -> anyhow::Result<()> {
                 result,
                 ..
             } = record;
-            let name = name(record.kind);
+            let kind = Kind::try_from(record.kind)?;
             println!(rt;
-                "  position {position}: {name} of replica {signer}, view {view}, slot {slot}, word {word}, result {result}"
+                "  position {position}: {kind} of replica {signer}, view {view}, slot {slot}, word {word}, result {result}"
             )?;
         }
         Err(refusal) => println!(rt;

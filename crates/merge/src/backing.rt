@@ -5,7 +5,7 @@ ghost use Rattle.merge.specs.Checks.{prepared, backed, backing_grounds};
 
 use crate::picks::refused;
 use quorum::reached;
-use record::{Record, kind};
+use record::{Kind, Record};
 use refusal::{Ground, Refusal};
 use register::Register;
 use replica::bit;
@@ -15,7 +15,7 @@ fn prepare_no_op(view: u8, slot: u8) -> Record
     ensures { result ≡ prepare_by 0 view slot 1 }
 {
     Record {
-        kind: kind::PREPARE,
+        kind: Kind::Prepare as u8,
         signer: 0,
         view,
         last: 0,

@@ -5,7 +5,7 @@ ghost use Rattle.merge.specs.Checks.{certified, base_grounds};
 
 use crate::picks::refused;
 use quorum::reached;
-use record::{Record, kind};
+use record::{Kind, Record};
 use refusal::{Ground, Refusal};
 use register::Register;
 
@@ -15,7 +15,7 @@ fn entry(view: u8, line: (u8, u64)) -> Record
 {
     let (length, word) = line;
     Record {
-        kind: kind::ENTRY,
+        kind: Kind::Entry as u8,
         signer: 0,
         view,
         last: 0,

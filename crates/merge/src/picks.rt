@@ -4,7 +4,7 @@ ghost use Rattle.refusal.specs.Grounds.{refused};
 ghost use Rattle.merge.specs.Merges.{top};
 ghost use Rattle.merge.specs.Checks.{layout_grounds, signs, fits, pick_grounds};
 
-use record::{Record, kind};
+use record::{Kind, Record};
 use refusal::{Ground, Refusal};
 
 // The refusal on a ground, at a place in a list of picks.
@@ -57,7 +57,7 @@ fn signs(picks: &[Record], signer: u8) -> bool
 fn fits(n: u8, stamped: u8, target: u8, top: u8, before: &[Record], pick: &Record) -> bool
     ensures { result ≡ fits n stamped target top before.now pick.now }
 {
-    pick.kind == kind::VIEW_CHANGE
+    pick.kind == Kind::ViewChange as u8
         && pick.signer < n
         && !signs(before, pick.signer)
         && pick.view == target
