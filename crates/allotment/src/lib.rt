@@ -1,34 +1,75 @@
 //! The allotment service: the balances of sixteen accounts, granted to and drawn from.
 #![tactic(auto)]
 
-ghost use Rattle.std.specs.Prelude.{◌≡◌, ℕ, List};
-ghost use Rattle.allotment.specs.Balances.{no_balances, allotment_next, allotment_answer};
+ghost use Rattle.std.specs.Prelude.{◌≡◌, ℕ, ◌<◌, List, Option, slice_index};
+ghost use Rattle.std.specs.Option.{ok_or};
+ghost use Rattle.service.specs.Answers.{answer_of};
+ghost use Rattle.service.specs.declared.answer.Unanswered.TheVariants.{OutOfRange};
+ghost use Rattle.allotment.specs.Balances.{no_balances, put, allotment_next, allotment_answer};
 
-use service::{MALFORMED, OUT_OF_RANGE, Service};
+use service::{Service, Unanswered};
+use std::marker::Model;
 
 mod operation;
 
 pub use operation::Operation;
 
 /// The allotment service: sixteen balances.
-#[derive(Drop)]
+#[derive(Debug, Drop)]
 pub struct Allotment {
     balances: [u32; 16],
+}
+
+impl Model for Allotment {
+    ghost Value = { List ℕ };
+
+    ghost view = { λ s. s.balances };
 }
 
 impl Allotment {
     /// An allotment service with every balance 0.
     pub fn new() -> Allotment
-        ensures { result.balances ≡ no_balances }
+        ensures { result ≡ no_balances }
     {
         Allotment { balances: [0; 16] }
+    }
+
+    // Makes the balance of an account what `change` makes of it, which is none out of its range.
+    fn adjust<F: FnOnce(u32) -> Option<u32>>(
+        &mut self,
+        account: u8,
+        change: F,
+    ) -> Result<u64, Unanswered>
+        requires account { account < 16 }
+        requires callable { F.IsAlwaysCallable change }
+        ensures { (o : Option ℕ) × F.post change (slice_index self.old account) o
+            × (self.new ≡ put self.old account o) × (result ≡ ok_or o OutOfRange) }
+    {
+        let balance = &mut self.balances[usize::from(account)];
+        *balance = change(*balance).ok_or(Unanswered::OutOfRange)?;
+        Ok(u64::from(*balance))
+    }
+
+    // Does what the bits ask for, and answers the balance that it leaves.
+    fn perform(&mut self, bits: u64) -> Result<u64, Unanswered>
+        ensures answer { answer_of result ≡ allotment_answer self.old bits }
+        ensures next { self.new ≡ allotment_next self.old bits }
+    {
+        match Operation::try_from(bits)? {
+            Operation::Grant { account, amount } => {
+                self.adjust(account, |balance| balance.checked_add(amount))
+            }
+            Operation::Draw { account, amount } => {
+                self.adjust(account, |balance| balance.checked_sub(amount))
+            }
+        }
     }
 }
 
 impl Service for Allotment {
     ghost State = { List ℕ };
 
-    ghost state = { λ s. s.balances };
+    ghost state = { λ s. s };
 
     ghost fresh = { λ _. no_balances };
 
@@ -37,22 +78,8 @@ impl Service for Allotment {
     ghost answer = { allotment_answer };
 
     fn apply(&mut self, operation: u64) -> u64 {
-        let (account, balance) = match Operation::decode(operation) {
-            Some(Operation::Grant { account, amount }) => {
-                (account, self.balances[account as usize].checked_add(amount))
-            }
-            Some(Operation::Draw { account, amount }) => {
-                (account, self.balances[account as usize].checked_sub(amount))
-            }
-            None => return MALFORMED,
-        };
-        match balance {
-            Some(balance) => {
-                self.balances[account as usize] = balance;
-                u64::from(balance)
-            }
-            None => OUT_OF_RANGE,
-        }
+        // Written in each service: in the trait, what it calls would be public too.
+        self.perform(operation).unwrap_or_else(u64::from)
     }
 
     fn clear(&mut self) {

@@ -1,8 +1,10 @@
-ghost use Rattle.std.specs.Prelude.{◌≡◌, ℕ, ◌^◌, ◌<◌, Some, MatchOption, ◌≢◌};
+ghost use Rattle.service.specs.Operations.{Decodes, Encodes};
 ghost use Rattle.allotment.specs.Decoded.{decoded};
 
+use service::{Unencodable, UnknownOperation};
+
 /// An operation of the allotment service.
-#[derive(Clone, Copy)]
+#[derive(Clone, Copy, Debug, PartialEq, Eq, Hash)]
 pub enum Operation {
     /// Adds to the balance of an account.
     Grant { account: u8, amount: u32 },
@@ -10,32 +12,39 @@ pub enum Operation {
     Draw { account: u8, amount: u32 },
 }
 
-impl Operation {
-    /// The operation that 64 bits stand for, if any.
-    pub fn decode(bits: u64) -> Option<Operation>
-        ensures { result ≡ decoded bits }
-    {
-        // Kind 2 bits, account 4, amount 32, filling 26.
+/// The operation that 64 bits stand for, if any.
+impl TryFrom<u64> for Operation {
+    type Error = UnknownOperation;
+
+    ghost try_from_gives = { Decodes decoded };
+
+    fn try_from(bits: u64) -> Result<Operation, UnknownOperation> {
+        // The layout is fixed: kind 2 bits, account 4, amount 32, filling 26.
         let account = ((bits >> 58) % 16) as u8;
         let amount = ((bits >> 26) % 0x1_0000_0000) as u32;
-        match bits >> 62 {
-            1 if bits % 0x400_0000 == 0 => Some(Operation::Grant { account, amount }),
-            2 if bits % 0x400_0000 == 0 => Some(Operation::Draw { account, amount }),
-            _ => None,
+        match (bits >> 62, bits % 0x400_0000) {
+            (1, 0) => Ok(Operation::Grant { account, amount }),
+            (2, 0) => Ok(Operation::Draw { account, amount }),
+            _ => Err(UnknownOperation),
         }
     }
+}
 
-    /// The 64 bits that stand for the operation. There are none for an account above 15.
-    pub fn encode(self) -> Option<u64>
-        ensures { MatchOption result ((n : ℕ) → n < 2 ^ 64 → decoded n ≢ Some self) (λ n. decoded n ≡ Some self) }
-    {
-        let (kind, account, amount) = match self {
+/// The 64 bits that stand for the operation. There are none for an account above 15.
+impl TryFrom<Operation> for u64 {
+    type Error = Unencodable;
+
+    ghost try_from_gives = { Encodes decoded };
+
+    fn try_from(operation: Operation) -> Result<u64, Unencodable> {
+        // The layout is fixed.
+        let (kind, account, amount) = match operation {
             Operation::Grant { account, amount } => (1u64, account, amount),
             Operation::Draw { account, amount } => (2u64, account, amount),
         };
         if account > 15 {
-            return None;
+            return Err(Unencodable);
         }
-        Some((kind << 62) + (u64::from(account) << 58) + (u64::from(amount) << 26))
+        Ok((kind << 62) + (u64::from(account) << 58) + (u64::from(amount) << 26))
     }
 }

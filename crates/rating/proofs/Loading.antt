@@ -1,50 +1,93 @@
--- Putting a curve before the others, one place after the other.
-use Rattle.std.proofs.Common.{◌≡◌, ℕ, ◌+◌, ◌<◌, ◌≤◌, eqb, List, [], ◌∷◌, ◌++◌, length, get_or, take, drop, set, sym, ap, ◌∙◌, add-one, arith}
-use Rattle.std.proofs.Math.Seq.{take-set-lt}
-use Rattle.std.proofs.lemmas.List.{append_assoc, get_or-take, drop_more, drop_all, drop-set-lt, length-take-le, set_split, take-take, take_more_set}
-use Rattle.std.proofs.lemmas.Bool.{cond-true, cond-false, eq-eqb, ne_eqb}
-use Rattle.rating.specs.Curves.{without, loaded}
+-- A LOAD keeps the numbers of the curves different, so there are never more curves than numbers.
+use Rattle.std.proofs.Common.{◌≡◌, ◌≢◌, ℕ, suc, ◌<◌, ◌≤◌, Bool, true, false, cond, not, eqb, [], ◌∷◌, length, map, filter, All, AllPairs, subst, sym, refl, ap, ◌∙◌, arith}
+use Rattle.std.specs.List.{IsDistinct, list_any}
+use Rattle.std.specs.List.Retain.{RetainsInTurn}
+use Rattle.std.proofs.lemmas.Bool.{eqb-true, eqb-false, not-true, ne_eqb}
+use Rattle.std.proofs.lemmas.List.{length-map}
+use Rattle.std.proofs.lemmas.List.Elements.{All-cons, All-filter, All-map, All-weaker, filter_passes, recursion_from_All}
+use Rattle.std.proofs.lemmas.List.Folds.{Any-from_list_any}
+use Rattle.std.proofs.lemmas.List.Kept.{AllPairs-cons, AllPairs-filter}
+use Rattle.std.proofs.lemmas.Map.Keys.{IsDistinct-cons}
+use Rattle.std.proofs.lemmas.Map.Steps.{length-le_from_distinct_below}
+use Rattle.arrayvec.proofs.ArrayVecLemmas.{filter-from_retain}
+use Rattle.rating.specs.Curves.{Curves, without, loaded, numbered}
 use Rattle.rating.specs.declared.curve.Curve.{Curve}
 
--- the first i of the curves cs are placed, and m is the next to be placed; xs are the curves before
-abbrev pub Placed : Curve → ℕ → List Curve → List Curve → ℕ → Curve → Type 0
-Placed k count xs cs i m = take i cs ++ (m ∷ without k.number (drop i (take count cs))) ≡ loaded k xs
+-- the curves of other numbers than n
+abbrev others : ℕ → Curves → Curves
+others n cs = filter (λ c. not (eqb c.number n)) cs
 
-module _ (k : Curve) (count : ℕ) (xs cs : List Curve) (i : ℕ) (m d : Curve) (room : count ≤ length cs) (placed : Placed k count xs cs i m) where
-  module _ (more : i < count) where
-    rest : drop i (take count cs) ≡ get_or cs i d ∷ drop (i + 1) (take count cs)
-    rest =
-        let long = length-take-le count cs room in
-        drop_more (take count cs) i d (omega arith) ∙ ap (λ (c : Curve). c ∷ drop (i + 1) (take count cs)) (get_or-take count cs i d more)
+abbrev Apart : Curve → Curve → Type 0
+Apart c d = c.number ≢ d.number
 
-    -- the curve of the new one's number gives up its place
-    pub closed : (get_or cs i d).number ≡ k.number → take count (set cs i m) ≡ loaded k xs
-    closed e =
-        let long = length-take-le count cs room in
-        let split : set (take count cs) i m ≡ take i (take count cs) ++ m ∷ drop (i + 1) (take count cs) =
-        set_split (take count cs) i m (omega arith) ∙ ap (λ (j : ℕ). take i (take count cs) ++ m ∷ drop j (take count cs)) (sym (add-one i)) in
-        take-set-lt count cs i m more
-        ∙ split
-        ∙ ap (λ (l : List Curve). l ++ m ∷ drop (i + 1) (take count cs)) (take-take i count cs (omega arith))
-        ∙ ap (λ (l : List Curve). take i cs ++ (m ∷ l)) (sym (cond-true (eqb (get_or cs i d).number k.number) _ _ (eq-eqb _ _ e)))
-        ∙ ap (λ (l : List Curve). take i cs ++ (m ∷ without k.number l)) (sym rest)
-        ∙ placed
+head : (c : Curve) (cs : Curves) → AllPairs Apart (c ∷ cs) → All (Apart c) cs
+head c cs h k d l = h 0 (suc k) d (omega arith) (omega arith)
 
-    -- another curve moves on
-    pub moved : ((get_or cs i d).number ≡ k.number → ⊥) → Placed k count xs (set cs i m) (i + 1) (get_or cs i d)
-    moved ne =
-        let x = get_or cs i d in
-        let same : drop (i + 1) (take count (set cs i m)) ≡ drop (i + 1) (take count cs) =
-        ap (drop (i + 1)) (take-set-lt count cs i m more) ∙ drop-set-lt (i + 1) (take count cs) i m (omega arith) in
-        ap (λ (l : List Curve). l ++ (x ∷ without k.number (drop (i + 1) (take count (set cs i m))))) (take_more_set cs i m (omega arith))
-        ∙ append_assoc (take i cs) (m ∷ []) _
-        ∙ ap (λ (l : List Curve). take i cs ++ (m ∷ (x ∷ without k.number l))) same
-        ∙ ap (λ (l : List Curve). take i cs ++ (m ∷ l)) (sym (cond-false (eqb x.number k.number) _ _ (ne_eqb _ _ ne)))
-        ∙ ap (λ (l : List Curve). take i cs ++ (m ∷ without k.number l)) (sym rest)
-        ∙ placed
+tail : (c : Curve) (cs : Curves) → AllPairs Apart (c ∷ cs) → AllPairs Apart cs
+tail c cs h i j d l m = h (suc i) (suc j) d (omega arith) (omega arith)
 
-  -- no curve gave up its place
-  pub pushed : i ≡ count → take i cs ++ (m ∷ []) ≡ loaded k xs
-  pushed e =
-      let long = length-take-le count cs room in
-      ap (λ (l : List Curve). take i cs ++ (m ∷ without k.number l)) (sym (drop_all i (take count cs) (omega arith))) ∙ placed
+others-all : (c : Curve) (cs : Curves) → All (Apart c) cs → others c.number cs ≡ cs
+others-all c [] h = refl
+others-all c (d ∷ cs) h =
+    rw (ne_eqb d.number c.number (λ e. h 0 d (omega arith) (sym e)))
+    (ap (λ (l : Curves). d ∷ l) (others-all c cs (λ k e l. h (suc k) e (omega arith))))
+
+others-without : (n : ℕ) (cs : Curves) → AllPairs Apart cs → others n cs ≡ without n cs
+others-without n [] h = refl
+others-without n (c ∷ cs) h =
+    let P : Bool → Type 0 = λ b. eqb c.number n ≡ b → cond (not b) (c ∷ others n cs) (others n cs) ≡ cond b cs (c ∷ without n cs) in
+    let cases : P (eqb c.number n) =
+    elim (eqb c.number n) as P [
+      | true ↦ λ e. subst (λ (m : ℕ). others m cs ≡ cs) (eqb-true _ _ e) (others-all c cs (head c cs h))
+      | false ↦ λ e. ap (λ (l : Curves). c ∷ l) (others-without n cs (tail c cs h))
+    ] in
+    cases refl
+
+numbered-others : (b : ℕ) (k : Curve) (cs : Curves) → k.number < b → numbered b cs → numbered b (k ∷ others k.number cs)
+numbered-others b k cs l h =
+    record {
+      below = All-cons (λ c. c.number < b) k _ l (All-filter _ (λ c. c.number < b) cs h.below);
+      apart =
+          AllPairs-cons Apart k _
+          (All-weaker (λ c. not (eqb c.number k.number) ≡ true) (Apart k) (λ c other e. eqb-false _ _ (not-true _ other) (sym e)) _ (filter_passes _ cs))
+          (AllPairs-filter Apart _ cs h.apart);
+    }
+
+distinct : (cs : Curves) → AllPairs Apart cs → IsDistinct eqb (map (λ c. c.number) cs)
+unfolding IsDistinct
+distinct [] h = tt
+distinct (c ∷ cs) h =
+    IsDistinct-cons eqb c.number _
+    (recursion_from_All _ _ (All-map (λ n. eqb c.number n ≡ false) (λ c. c.number) cs (All-weaker (Apart c) (λ d. eqb c.number d.number ≡ false) (λ d. ne_eqb _ _) cs (head c cs h))))
+    (distinct cs (tail c cs h))
+
+-- there are no more curves than numbers
+pub length-numbered : (b : ℕ) (cs : Curves) → numbered b cs → length cs ≤ b
+length-numbered b cs h =
+    let below : (q : ℕ) → list_any (eqb q) (map (λ c. c.number) cs) ≡ true → q < b =
+    λ q found.
+    let a = Any-from_list_any (eqb q) _ found in
+    subst (λ (n : ℕ). n < b) (a.3 ∙ sym (eqb-true _ _ a.4)) (All-map (λ n. n < b) (λ c. c.number) cs h.below a.0 a.1 a.2) in
+    let few = length-le_from_distinct_below (map (λ c. c.number) cs) b (distinct cs h.apart) below in
+    let same = length-map cs (λ c. c.number) in
+    omega arith
+
+-- what a LOAD of k makes of the curves cs, of which ys are kept
+pub record Loads (k : Curve) (cs ys : Curves) : Type 0 where
+  pub curves : k ∷ ys ≡ loaded k cs
+  pub numbers : numbered 8 (k ∷ ys)
+  pub room : length ys < 8
+
+-- the test of R is whether the curve has another number than k
+pub loads : {F : Type 0} (R : F → Curve → Bool → F → Curve → Type 0) (k : Curve) (f : F)
+    → ((c : Curve) (b : Bool) (g : F) (d : Curve) → R f c b g d → (b ≡ not (eqb c.number k.number)) × (g ≡ f) × (d ≡ c))
+    → (cs ys : Curves) → k.number < 8 → numbered 8 cs → RetainsInTurn R f cs ys → Loads k cs ys
+loads R k f says cs ys l h retained =
+    let kept : ys ≡ others k.number cs = filter-from_retain R (λ c. not (eqb c.number k.number)) f says cs ys retained in
+    let numbers = subst (λ (zs : Curves). numbered 8 (k ∷ zs)) (sym kept) (numbered-others 8 k cs l h) in
+    let few = length-numbered 8 (k ∷ ys) numbers in
+    record {
+      curves = ap (λ (zs : Curves). k ∷ zs) (kept ∙ others-without k.number cs h.apart);
+      numbers = numbers;
+      room = omega arith;
+    }

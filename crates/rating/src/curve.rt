@@ -1,9 +1,11 @@
-ghost use Rattle.std.specs.Prelude.{◌≡◌};
-ghost use Rattle.rating.specs.Curves.{holds, flow, deciding};
+ghost use Rattle.std.specs.Prelude.{◌≡◌, Some};
+ghost use Rattle.rating.specs.Curves.{holds, flow, curve_text};
+
+use std::fmt;
 
 /// A rating curve: the flow, in litres per second, at the stages from `low` to `high`, in
 /// millimetres, both among them. It rises from `offset` by `slope` with each millimetre.
-#[derive(Clone, Copy)]
+#[derive(Clone, Copy, Debug, Default, PartialEq, Eq, Hash)]
 pub struct Curve {
     pub number: u8,
     pub low: u16,
@@ -12,12 +14,30 @@ pub struct Curve {
     pub slope: u16,
 }
 
+impl fmt::Display for Curve {
+    ghost output = { λ c. Some (curve_text c) };
+
+    fn fmt<W: fmt::Write>(&self, f: &mut fmt::Formatter<W>) -> fmt::Result {
+        let Curve {
+            number,
+            low,
+            high,
+            offset,
+            slope,
+        } = *self;
+        write!(
+            f,
+            "curve {number}: {low} to {high} mm, {offset} l/s at its low end, {slope} l/s more for each mm"
+        )
+    }
+}
+
 impl Curve {
     // Whether the curve holds the stage.
     pub(crate) fn holds(&self, stage: u16) -> bool
         ensures { result ≡ holds self.now stage }
     {
-        self.low <= stage && stage <= self.high
+        (self.low..=self.high).contains(&stage)
     }
 
     // The flow at a stage that the curve holds.
@@ -26,16 +46,4 @@ impl Curve {
     {
         u64::from(self.offset) + u64::from(self.slope) * u64::from(stage.saturating_sub(self.low))
     }
-}
-
-// The curve that decides the flow at a stage, of curves with the one loaded last first.
-pub(crate) fn deciding(curves: &[Curve], stage: u16) -> Option<Curve>
-    ensures { result ≡ deciding stage curves.now }
-{
-    for curve in curves {
-        if curve.holds(stage) {
-            return Some(*curve);
-        }
-    }
-    None
 }

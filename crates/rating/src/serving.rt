@@ -1,41 +1,13 @@
-ghost use Rattle.std.specs.Prelude.{◌≡◌, ◌<◌, ◌≤◌, true, [], take};
-ghost use Rattle.rating.specs.Curves.{deciding, loaded, numbered};
-ghost use Rattle.rating.specs.Rating.{Curves, curves_of, flow_by, rating_next, rating_answer};
+ghost use Rattle.std.specs.Prelude.{◌≡◌, ◌<◌, [], option_map};
+ghost use Rattle.service.specs.Answers.{answer_of};
+ghost use Rattle.rating.specs.Curves.{Curves, flow, deciding, loaded};
+ghost use Rattle.rating.specs.Rating.{curves_of, rating_next, rating_answer};
 
-use crate::curve::{Curve, deciding};
+use crate::curve::Curve;
 use crate::operation::Operation;
 use crate::table::Rating;
-use service::{MALFORMED, OUT_OF_RANGE, Service};
-
-const BLANK: Curve = Curve {
-    number: 0,
-    low: 0,
-    high: 0,
-    offset: 0,
-    slope: 0,
-};
-
-// Puts `curve` before the first `count` curves and closes the place of the curve of its number.
-// Answers how many there are then.
-fn insert(curves: &mut [Curve; 8], count: usize, curve: Curve) -> usize
-    requires within { count ≤ 8 }
-    requires apart { numbered 8 (take count curves.old) ≡ true }
-    requires below { curve.number < 8 }
-    ensures within { result ≤ 8 }
-    ensures curves { take result curves.new ≡ loaded curve (take count curves.old) }
-{
-    let mut moved = curve;
-    for place in 0..count {
-        let here = curves[place];
-        curves[place] = moved;
-        if here.number == curve.number {
-            return count;
-        }
-        moved = here;
-    }
-    curves[count] = moved;
-    count + 1
-}
+use arrayvec::ArrayVec;
+use service::{Service, Unanswered};
 
 impl Rating {
     /// A rating service without curves.
@@ -43,8 +15,7 @@ impl Rating {
         ensures { curves_of result ≡ [] }
     {
         Rating {
-            curves: [BLANK; 8],
-            count: 0,
+            curves: ArrayVec::new(),
         }
     }
 
@@ -53,17 +24,31 @@ impl Rating {
         requires { curve.number < 8 }
         ensures { curves_of self.new ≡ loaded curve (curves_of self.old) }
     {
-        let count = self.count;
-        self.count = insert(&mut self.curves, count, curve);
+        self.curves.retain(|held| held.number != curve.number);
+        self.curves.insert(0, curve);
     }
 
-    // The answer to a READ.
-    fn read(&self, stage: u16) -> u64
-        ensures { result ≡ flow_by stage (deciding stage (curves_of self.now)) }
+    // The flow at a stage, by the curve that decides.
+    fn read(&self, stage: u16) -> Option<u64>
+        ensures { result ≡ option_map (λ c. flow c stage) (deciding stage (curves_of self.now)) }
     {
-        match deciding(&self.curves[0..self.count], stage) {
-            Some(curve) => curve.flow(stage),
-            None => OUT_OF_RANGE,
+        self.curves
+            .iter()
+            .find(|curve| curve.holds(stage))
+            .map(|curve| curve.flow(stage))
+    }
+
+    // Does what the bits ask for.
+    fn perform(&mut self, bits: u64) -> Result<u64, Unanswered>
+        ensures answer { answer_of result ≡ rating_answer (curves_of self.old) bits }
+        ensures next { curves_of self.new ≡ rating_next (curves_of self.old) bits }
+    {
+        match Operation::try_from(bits)? {
+            Operation::Load(curve) => {
+                self.load(curve);
+                Ok(0)
+            }
+            Operation::Read(stage) => self.read(stage).ok_or(Unanswered::OutOfRange),
         }
     }
 }
@@ -80,17 +65,11 @@ impl Service for Rating {
     ghost answer = { rating_answer };
 
     fn apply(&mut self, operation: u64) -> u64 {
-        match Operation::decode(operation) {
-            Some(Operation::Load(curve)) => {
-                self.load(curve);
-                0
-            }
-            Some(Operation::Read(stage)) => self.read(stage),
-            None => MALFORMED,
-        }
+        // Written in each service: in the trait, what it calls would be public too.
+        self.perform(operation).unwrap_or_else(u64::from)
     }
 
     fn clear(&mut self) {
-        self.count = 0;
+        self.curves.clear();
     }
 }

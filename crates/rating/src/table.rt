@@ -1,13 +1,11 @@
-ghost use Rattle.std.specs.Prelude.{◌≡◌, ◌≤◌, true, take};
 ghost use Rattle.rating.specs.Curves.{numbered};
 
 use crate::curve::Curve;
+use arrayvec::ArrayVec;
 
 /// The rating service: at most eight curves, the one loaded last first.
-#[derive(Drop)]
+#[derive(Debug, Drop)]
 pub struct Rating {
-    pub(crate) curves: [Curve; 8],
-    pub(crate) count: usize,
-    ghost within: { count ≤ 8 },
-    ghost apart: { numbered 8 (take count curves) ≡ true },
+    pub(crate) curves: ArrayVec<Curve, 8>,
+    ghost apart: { numbered 8 curves.items },
 }

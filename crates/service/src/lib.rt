@@ -3,12 +3,9 @@
 
 ghost use Rattle.std.specs.Prelude.{◌≡◌, ℕ};
 
-/// The answer where an operation asks for what there is not: no curve holds the stage, or the
-/// balance would leave its range.
-pub const OUT_OF_RANGE: u64 = 0x8000_0000_0000_0000;
+mod answer;
 
-/// The answer where the 64 bits are no operation of the service.
-pub const MALFORMED: u64 = 0x8000_0000_0000_0001;
+pub use answer::{MALFORMED, OUT_OF_RANGE, Unanswered, Unencodable, UnknownOperation, outcome};
 
 /// A service. Its meaning is a state: an operation and the state fix the answer and the next state.
 pub trait Service {

@@ -1,8 +1,18 @@
-use Rattle.std.proofs.Common.{ap, ◌∙◌}
-use Rattle.rating.specs.Curves.{numbered}
-use Rattle.rating.proofs.Numbers.{loaded_numbered}
+use Rattle.std.proofs.Common.{rules, ◌∙◌}
+use Rattle.rating.proofs.Loading.{loads}
 use Rattle.rating.proofs.table.Rating.load.Goals as goal
 
-pub invariant_of-self-clause-apart : goal.invariant_of-self-clause-apart
-invariant_of-self-clause-apart c =
-    ap (numbered 8) c.insert-self.ensures.curves ∙ loaded_numbered 8 c.args.curve _ c.requires c.args.self.now.apart
+pub insert-requires : goal.insert-requires
+insert-requires c =
+    let now = loads _ c.args.curve _ (λ held keeps f held' called. search rules) _ _ c.requires c.args.self.now.apart c.retain.ensures.filtered in
+    search rules
+
+pub invariant_of-self : goal.invariant_of-self
+invariant_of-self c =
+    rw c.insert.ensures.items
+    (record { apart = (loads _ c.args.curve _ (λ held keeps f held' called. search rules) _ _ c.requires c.args.self.now.apart c.retain.ensures.filtered).numbers })
+
+pub returns : goal.returns
+returns c =
+    c.insert.ensures.items
+    ∙ (loads _ c.args.curve _ (λ held keeps f held' called. search rules) _ _ c.requires c.args.self.now.apart c.retain.ensures.filtered).curves
