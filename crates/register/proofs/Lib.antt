@@ -1,4 +1,3 @@
-pub mod Tests
 pub mod Entering
 pub mod Stored
 pub mod Inserting

@@ -1,60 +1,58 @@
 -- What a list of places stores, one place more.
-use Rattle.std.proofs.Common.{◌≡◌, ℕ, zero, suc, ◌+◌, ◌<◌, ◌≤◌, Bool, true, false, ◌||◌, List, [], ◌∷◌, ◌++◌, length, get_or, take, sym, ap, ◌∙◌, subst, arith}
+use Rattle.std.proofs.Common.{◌≡◌, ℕ, zero, suc, ◌<◌, Bool, true, false, not, MatchBool, List, [], ◌∷◌, ◌++◌, length, refl, subst, inl, inr, arith}
 use mathlib.Core.Path.{fun_ext}
-use Rattle.std.proofs.lemmas.List.{take_all, take_more}
-use Rattle.std.proofs.lemmas.Bool.{and_from, or_from, or_left, or_right, false≢true, true≢false}
+use Rattle.std.specs.List.{AllWithin, HoldsAt, list_any}
+use Rattle.std.proofs.lemmas.List.Folds.{list_any-append}
+use Rattle.std.proofs.lemmas.Bool.{cases_Bool, and_from, and_left, and_right, and_parts, or_from, or_left, or_right, false≢true, true≢false}
 use Rattle.record.specs.Layout.{keeps_layout}
 use Rattle.record.specs.Same.{same}
 use Rattle.record.specs.declared.Record.{Record}
 use Rattle.record.proofs.Same.{same_decides}
 use Rattle.register.specs.Sets.{Emptiness, added}
-use Rattle.register.specs.Stored.{any, stored}
-use Rattle.register.proofs.Tests.{or_none, or_assoc}
-
-pub any_push : {X : Type 0} (p : X → Bool) (ys : List X) (y : X) → any p (ys ++ y ∷ []) ≡ (any p ys || p y)
-any_push p [] y = or_none (p y)
-any_push p (z ∷ ys) y = ap (λ (b : Bool). p z || b) (any_push p ys y) ∙ sym (or_assoc (p z) (any p ys) (p y))
-
-pub any_at : {X : Type 0} (p : X → Bool) (ys : List X) (i : ℕ) (d : X) → i < length ys → p (get_or ys i d) ≡ true → any p ys ≡ true
-any_at p [] i d l h = absurd (omega arith)
-any_at p (y ∷ ys) zero d l h = or_left (p y) (any p ys) h
-any_at p (y ∷ ys) (suc i) d l h = or_right (p y) (any p ys) (any_at p ys i d (omega arith) h)
-
--- a loop that has found none of the first i places to pass
-module _ {X : Type 0} (p : X → Bool) (ys : List X) (i : ℕ) where
-  pub any_more : (d : X) → i < length ys → p (get_or ys i d) ≡ false → any p (take i ys) ≡ false → any p (take (i + 1) ys) ≡ false
-  any_more d l h e = ap (any p) (take_more ys i d l) ∙ any_push p (take i ys) (get_or ys i d) ∙ or_from (any p (take i ys)) _ e h
-
-  pub any_all : length ys ≤ i → any p (take i ys) ≡ false → any p ys ≡ false
-  any_all l e = sym (ap (any p) (take_all i ys l)) ∙ e
+use Rattle.register.specs.Stored.{stored}
 
 module _ {X : Type 0} (m : Record → X → Bool) (ys : List X) where
   -- a place more that holds just r
   pub stored_push : (y : X) (r : Record) → keeps_layout r ≡ true → ((x : Record) → keeps_layout x ≡ true → m x y ≡ same r x) → stored m (ys ++ y ∷ []) ≡ added (stored m ys) r
   stored_push y r kept is =
       fun_ext (λ x.
-      let more = any_push (m x) ys y in
+      let more = list_any-append (m x) ys (y ∷ []) in
       let here = is x in
       let decides = same_decides r x in
       let kept-too : same r x ≡ true → keeps_layout x ≡ true = λ h. subst (λ (z : Record). keeps_layout z ≡ true) (decides.0 h) kept in
       grind arith)
 
-  -- a place that holds a statement
-  pub stored_some : (i : ℕ) (d : X) (x : Record) → i < length ys → keeps_layout x ≡ true → m x (get_or ys i d) ≡ true → Emptiness (stored m ys) false
-  stored_some i d x l kept h =
+-- a place that holds a statement, and one that holds none
+module _ {X : Type 0} (m : Record → X → Bool) where
+  abbrev pub Holds : X → Type 0
+  Holds y = (x : Record) × (keeps_layout x ≡ true) × (m x y ≡ true)
+
+  abbrev pub HoldsNone : X → Type 0
+  HoldsNone y = (x : Record) → keeps_layout x ≡ true → m x y ≡ false
+
+  in_some : (ys : List X) (k : ℕ) → k < length ys → HoldsAt Holds ys k → (x : Record) × (stored m ys x ≡ true)
+  in_some [] k l at = absurd (omega arith)
+  in_some (y ∷ ys) zero l at = let x = at y in (x.0, and_from (keeps_layout x.0) _ x.1 (or_left (m x.0 y) _ x.2))
+  in_some (y ∷ ys) (suc k) l at =
+      let x = in_some ys k (omega arith) at in
+      let parts = and_parts (keeps_layout x.0) _ x.1 in
+      (x.0, and_from (keeps_layout x.0) _ parts.0 (or_right (m x.0 y) _ parts.1))
+
+  in_none : (ys : List X) → AllWithin HoldsNone ys 0 (length ys) → (x : Record) → keeps_layout x ≡ true → list_any (m x) ys ≡ false
+  in_none [] none x kept = refl
+  in_none (y ∷ ys) none x kept =
+      or_from (m x y) _ (none 0 y (omega arith) (omega arith) x kept)
+      (in_none ys (λ k d from to. none (suc k) d (omega arith) (omega arith)) x kept)
+
+  -- b tells whether one of the places ys holds a statement
+  pub stored_emptiness : (ys : List X) (b : Bool) → MatchBool b ((k : ℕ) × (k < length ys) × HoldsAt Holds ys k) (AllWithin HoldsNone ys 0 (length ys)) → Emptiness (stored m ys) (not b)
+  stored_emptiness ys true h =
+      record { none = λ e. absurd (false≢true e); some = λ _. in_some ys h.0 h.1 h.2 }
+  stored_emptiness ys false h =
       record {
-        none = λ e. absurd (false≢true e);
-        some = λ _. (x, and_from (keeps_layout x) _ kept (any_at (m x) ys i d l h));
+        none = λ _ x. elim (cases_Bool (keeps_layout x)) [
+          | inl kept ↦ and_right (keeps_layout x) _ (in_none ys h x kept)
+          | inr broken ↦ and_left (keeps_layout x) _ broken
+        ];
+        some = λ e. absurd (true≢false e);
       }
-
-  -- a place more that holds no statement
-  pub stored_none : (y : X) → ((x : Record) → keeps_layout x ≡ true → m x y ≡ false) → ((x : Record) → stored m ys x ≡ false) → (x : Record) → stored m (ys ++ y ∷ []) x ≡ false
-  stored_none y none before x =
-      let more = any_push (m x) ys y in
-      let was = before x in
-      let here = none x in
-      grind arith
-
-  -- all places hold no statement
-  pub stored_empty : ((x : Record) → stored m ys x ≡ false) → Emptiness (stored m ys) true
-  stored_empty none = record { none = λ _. none; some = λ e. absurd (true≢false e) }

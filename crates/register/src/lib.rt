@@ -9,23 +9,12 @@ ghost use Rattle.register.specs.Sets.{Emptiness, Entered};
 ghost use Rattle.register.specs.Insertions.{Granted, Inserted};
 
 use record::Record;
-use refusal::{Ground, Refusal};
-
-/// How a register refuses a record that breaks the layout.
-pub const BREAKS_LAYOUT: Refusal = Refusal {
-    ground: Ground::Layout,
-    place: 0,
-};
-
-/// How a register refuses a new statement where no place is free.
-pub const FULL: Refusal = Refusal {
-    ground: Ground::RegisterFull,
-    place: 0,
-};
+use refusal::Refusal;
 
 /// A register. Its meaning is the set of statements that it holds, `held`, and the number of its
 /// free places, `free`.
 pub trait Register {
+    // Set and places are two members: most contracts above name one of them alone.
     ghost held: { Self → Record → Bool };
 
     ghost free: { Self → ℕ };

@@ -1,2 +1,2 @@
-pub mod RecordPlaces
+pub mod Stores
 pub mod Together

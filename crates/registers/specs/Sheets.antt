@@ -1,27 +1,28 @@
 -- The spare sheet: a register with places of its own, laid over another.
+--   Sheet                          — the records in the used places of a sheet, in order
 --   sheet_held t                   — the statements in the used places of the sheet t
---   sheet_free t                   — how many places of t are not used
+--   sheet_free t                   — how many of the 16 places of t are not used
 --   sheet_after t r                — t after r is entered: a new statement stands in its next place, all else is as it was
 --   together s t                   — the members of s and those of t
 --   BelowFirst s m t r s' m' t'    — how r was entered, where the register below had the set s and m free places: then it has s' and m', and the sheet t is t'. What the sheet holds is not entered below; what the register below grants is not kept in the sheet
-use Rattle.std.specs.Prelude.{◌≡◌, ℕ, ◌+◌, cond, ◌||◌, is_ok}
+use Rattle.std.specs.Prelude.{◌≡◌, ℕ, ◌-◌, cond, ◌||◌, [], ◌∷◌, ◌++◌, is_ok}
+use Rattle.arrayvec.specs.ArrayVec.{ArrayVec, array_vec_len}
 use Rattle.record.specs.declared.Record.{Record}
 use Rattle.register.specs.Sets.{Set, adds, entering, held_after, free_after}
-use Rattle.registers.specs.Places.{in_places, room, entered}
-use Rattle.registers.specs.declared.sheet.Sheet.{Sheet}
+use Rattle.register.specs.Stored.{stored}
+use Rattle.registers.specs.Places.{is_there}
+
+abbrev pub Sheet : Type 0
+Sheet = ArrayVec Record
 
 abbrev pub sheet_held : Sheet → Set
-sheet_held t = in_places t.used t.places
+sheet_held t = stored is_there t.items
 
 abbrev pub sheet_free : Sheet → ℕ
-sheet_free t = room t.used t.places
+sheet_free t = 16 - array_vec_len t
 
 abbrev pub sheet_after : Sheet → Record → Sheet
-sheet_after t r =
-    record {
-      places = entered t.used t.places r;
-      used = cond (adds (sheet_held t) (sheet_free t) r) (t.used + 1) t.used;
-    }
+sheet_after t r = record { items = cond (adds (sheet_held t) (sheet_free t) r) (t.items ++ r ∷ []) t.items }
 
 abbrev pub together : Set → Set → Set
 together s t = λ x. s x || t x

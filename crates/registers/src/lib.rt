@@ -2,8 +2,8 @@
 //! 16 of its own, over any register.
 #![tactic(auto)]
 
-mod places;
 mod sheet;
+mod store;
 mod table;
 
 pub use sheet::SpareSheet;

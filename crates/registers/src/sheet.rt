@@ -1,76 +1,33 @@
-ghost use Rattle.std.specs.Prelude.{◌≡◌, ◌+◌};
+ghost use Rattle.std.specs.Prelude.{◌≡◌, ◌+◌, ◌-◌, ◌∷◌, [], ◌++◌};
+ghost use Rattle.arrayvec.specs.ArrayVec.{array_vec_len};
 ghost use Rattle.register.specs.Sets.{Entered, nothing};
-ghost use Rattle.registers.specs.Sheets.{sheet_held, sheet_free, sheet_after, together, BelowFirst};
+ghost use Rattle.registers.specs.Sheets.{sheet_held, sheet_free, together, BelowFirst};
 
-use crate::places::{first, holds, holds_nothing, is_full, put};
+use crate::store::{Store, enter, holds, holds_nothing};
+use arrayvec::ArrayVec;
 use record::Record;
 use refusal::Refusal;
-use register::{BREAKS_LAYOUT, FULL, Register};
+use register::Register;
 
 const PLACES: usize = 16;
 
-const BLANK: Record = Record {
-    kind: 0,
-    signer: 0,
-    view: 0,
-    last: 0,
-    slot: 0,
-    verdict: 0,
-    word: 0,
-    result: 0,
-};
+impl Store for ArrayVec<Record, PLACES> {
+    ghost records = { λ t. t.items };
 
-// A register of 16 places of its own.
-#[derive(Drop)]
-struct Sheet {
-    places: [Record; PLACES],
-    // How many of the places are used, the first ones.
-    used: usize,
-}
+    ghost room = { sheet_free };
 
-impl Sheet {
-    // An empty sheet.
-    fn new() -> Sheet
-        ensures held { sheet_held result ≡ nothing }
-        ensures free { sheet_free result ≡ 16 }
-    {
-        Sheet {
-            places: [BLANK; PLACES],
-            used: 0,
-        }
-    }
-}
+    ghost Appends = { λ t r t'. t'.items ≡ t.items ++ r ∷ [] };
 
-impl Register for Sheet {
-    ghost held = { sheet_held };
-
-    ghost free = { sheet_free };
-
-    fn ask(&self, r: &Record) -> bool {
-        holds(first(&self.places, self.used), r)
+    fn records(&self) -> &[Record] {
+        self.as_slice()
     }
 
-    fn is_empty(&self) -> bool {
-        holds_nothing(first(&self.places, self.used))
+    fn is_full(&self) -> bool {
+        ArrayVec::is_full(self)
     }
 
-    fn enter(&mut self, r: &Record) -> Result<(), Refusal>
-        ensures entered { Entered (sheet_held self.old) (sheet_free self.old) r.now result (sheet_held self.new) (sheet_free self.new) }
-        ensures sheet { self.new ≡ sheet_after self.old r.now }
-    {
-        if !r.keeps_layout() {
-            return Err(BREAKS_LAYOUT);
-        }
-        if self.ask(r) {
-            return Ok(());
-        }
-        if is_full(&self.places, self.used) {
-            return Err(FULL);
-        }
-        let used = self.used;
-        put(&mut self.places, used, r);
-        self.used = used + 1;
-        Ok(())
+    fn append(&mut self, r: Record) {
+        self.push(r);
     }
 }
 
@@ -78,7 +35,7 @@ impl Register for Sheet {
 #[derive(Drop)]
 pub struct SpareSheet<R> {
     below: R,
-    sheet: Sheet,
+    sheet: ArrayVec<Record, PLACES>,
 }
 
 impl<R: Register> SpareSheet<R> {
@@ -91,7 +48,7 @@ impl<R: Register> SpareSheet<R> {
     {
         SpareSheet {
             below,
-            sheet: Sheet::new(),
+            sheet: ArrayVec::new(),
         }
     }
 }
@@ -102,11 +59,11 @@ impl<R: Register> Register for SpareSheet<R> {
     ghost free = { λ s. R.free s.below + sheet_free s.sheet };
 
     fn ask(&self, r: &Record) -> bool {
-        self.below.ask(r) || self.sheet.ask(r)
+        self.below.ask(r) || holds(self.sheet.records(), r)
     }
 
     fn is_empty(&self) -> bool {
-        self.below.is_empty() && self.sheet.is_empty()
+        self.below.is_empty() && holds_nothing(self.sheet.records())
     }
 
     /// A new statement is entered below. The sheet takes it only if the register below refuses it.
@@ -114,12 +71,12 @@ impl<R: Register> Register for SpareSheet<R> {
         ensures entered { Entered (together (R.held self.old.below) (sheet_held self.old.sheet)) (R.free self.old.below + sheet_free self.old.sheet) r.now result (together (R.held self.new.below) (sheet_held self.new.sheet)) (R.free self.new.below + sheet_free self.new.sheet) }
         ensures order { BelowFirst (R.held self.old.below) (R.free self.old.below) self.old.sheet r.now (R.held self.new.below) (R.free self.new.below) self.new.sheet }
     {
-        if self.sheet.ask(r) {
+        if holds(self.sheet.records(), r) {
             return Ok(());
         }
         if self.below.enter(r).is_ok() {
             return Ok(());
         }
-        self.sheet.enter(r)
+        enter(&mut self.sheet, r)
     }
 }

@@ -1,22 +1,24 @@
-ghost use Rattle.std.specs.Prelude.{◌≡◌, length};
-ghost use Rattle.register.specs.Sets.{Entered, nothing};
-ghost use Rattle.registers.specs.Places.{entered};
-ghost use Rattle.registers.specs.Tables.{table_held, table_free};
+ghost use Rattle.std.specs.Prelude.{◌≡◌, ◌≤◌, length};
 
-use crate::places::{first, holds, holds_nothing, put};
+use crate::store::{Store, enter, holds, holds_nothing};
 use record::Record;
 use refusal::Refusal;
-use register::{BREAKS_LAYOUT, FULL, Register};
+use register::Register;
 
 /// A register over records that the caller lends. It is scanned and written in place.
 #[derive(Drop)]
 pub struct Table<'a> {
+    // What the caller lends is written in place, so its length stands beside it.
     places: &'a mut [Record],
     // How many of the places are used, the first ones.
     used: usize,
+    ghost fits: { used ≤ length places.now },
 }
 
 impl<'a> Table<'a> {
+    ghost use Rattle.register.specs.Sets.{nothing};
+    ghost use Rattle.registers.specs.Tables.{table_held, table_free};
+
     /// An empty register over these places, whatever they hold. Each is a free place.
     pub fn new(places: &'a mut [Record]) -> Table<'a>
         ensures held { table_held result ≡ nothing }
@@ -29,17 +31,44 @@ impl<'a> Table<'a> {
     }
 }
 
+impl<'a> Store for Table<'a> {
+    ghost use Rattle.registers.specs.Tables.{table_records, table_free, AppendsToTable};
+
+    ghost records = { table_records };
+
+    ghost room = { table_free };
+
+    ghost Appends = { AppendsToTable };
+
+    fn records(&self) -> &[Record] {
+        &self.places[..self.used]
+    }
+
+    fn is_full(&self) -> bool {
+        self.used == self.places.len()
+    }
+
+    fn append(&mut self, r: Record) {
+        self.places[self.used] = r;
+        self.used += 1;
+    }
+}
+
 impl<'a> Register for Table<'a> {
+    ghost use Rattle.register.specs.Sets.{Entered};
+    ghost use Rattle.registers.specs.Places.{entered};
+    ghost use Rattle.registers.specs.Tables.{table_held, table_free};
+
     ghost held = { table_held };
 
     ghost free = { table_free };
 
     fn ask(&self, r: &Record) -> bool {
-        holds(first(self.places, self.used), r)
+        holds(self.records(), r)
     }
 
     fn is_empty(&self) -> bool {
-        holds_nothing(first(self.places, self.used))
+        holds_nothing(self.records())
     }
 
     /// A new statement goes to the lowest free place. Nothing else of the caller's memory changes.
@@ -48,18 +77,6 @@ impl<'a> Register for Table<'a> {
         ensures places { self.new.places.now ≡ entered self.old.used self.old.places.now r.now }
         ensures lent { self.new.places.ghost_name ≡ self.old.places.ghost_name }
     {
-        if !r.keeps_layout() {
-            return Err(BREAKS_LAYOUT);
-        }
-        if self.ask(r) {
-            return Ok(());
-        }
-        if self.used >= self.places.len() {
-            return Err(FULL);
-        }
-        let used = self.used;
-        put(self.places, used, r);
-        self.used = used + 1;
-        Ok(())
+        enter(self, r)
     }
 }

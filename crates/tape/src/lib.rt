@@ -1,88 +1,29 @@
 //! A register over bytes that the caller lends.
 #![tactic(auto)]
 
-ghost use Rattle.std.specs.Prelude.{◌≡◌, ◌<◌, Decides};
-ghost use Rattle.std.specs.Str.{bytes_eq};
-ghost use Rattle.record.specs.Packed.{Packs};
-ghost use Rattle.record.specs.Tapes.{places, place};
-ghost use Rattle.record.specs.declared.Record.{Record};
-ghost use Rattle.register.specs.Sets.{Emptiness, Entered, nothing};
-ghost use Rattle.register.specs.Stored.{any};
-ghost use Rattle.tape.specs.Tapes.{used_parts, on_tape, replaced, entered_on, tape_held, tape_free};
+ghost use Rattle.std.specs.Prelude.{◌≡◌, ◌≤◌};
+ghost use Rattle.record.specs.Tapes.{places};
+ghost use Rattle.register.specs.Sets.{Entered, nothing};
 
-use record::{Record, SIZE, part_at};
-use refusal::Refusal;
-use register::{FULL, Register};
+mod parts;
+
+use crate::parts::{has, holds_nothing};
+use record::{Record, SIZE};
+use refusal::{Ground, Refusal};
+use register::Register;
 
 /// A register over bytes that the caller lends: records are packed into it end to end.
 #[derive(Drop)]
 pub struct Tape<'a> {
+    // What the caller lends is written in place, so its length stands beside it.
     bytes: &'a mut [u8],
     // How many records are packed into it.
     used: usize,
-}
-
-// Whether the place `i` has just these bytes.
-fn part_is(tape: &[u8], i: usize, bytes: &[u8; SIZE]) -> bool
-    requires { i < places tape.now }
-    ensures { result ≡ bytes_eq (place i tape.now) bytes.now }
-{
-    match part_at(tape, i) {
-        Some(part) => *part == *bytes,
-        None => false,
-    }
-}
-
-// Whether the place `i` holds a statement.
-fn part_holds(tape: &[u8], i: usize) -> bool
-    requires { i < places tape.now }
-    ensures { Decides result ((x : Record) × Packs x (place i tape.now)) }
-{
-    match part_at(tape, i) {
-        Some(part) => Record::unpack(part).is_ok(),
-        None => false,
-    }
-}
-
-// Writes the bytes to the place `i`.
-fn put(tape: &mut [u8], i: usize, bytes: &[u8; SIZE])
-    requires { i < places tape.old }
-    ensures { tape.new ≡ replaced i tape.old bytes.now }
-{
-    tape[SIZE * i..SIZE * i + SIZE].copy_from_slice(bytes);
-}
-
-// Whether one of the first `used` places has just these bytes.
-fn some_part_is(tape: &[u8], used: usize, bytes: &[u8; SIZE]) -> bool
-    ensures { result ≡ any (λ y. bytes_eq y bytes.now) (used_parts used tape.now) }
-{
-    for i in 0..used.min(tape.len() / SIZE) {
-        if part_is(tape, i, bytes) {
-            return true;
-        }
-    }
-    false
-}
-
-// Whether none of the first `used` places holds a statement.
-fn no_part_holds(tape: &[u8], used: usize) -> bool
-    ensures { Emptiness (on_tape used tape.now) result }
-{
-    for i in 0..used.min(tape.len() / SIZE) {
-        if part_holds(tape, i) {
-            return false;
-        }
-    }
-    true
+    ghost fits: { used ≤ places bytes.now },
 }
 
 impl<'a> Tape<'a> {
-    // Whether one of the used places has just these bytes.
-    fn has(&self, bytes: &[u8; SIZE]) -> bool
-        ensures { result ≡ any (λ y. bytes_eq y bytes.now) (used_parts self.now.used self.now.bytes.now) }
-    {
-        some_part_is(self.bytes, self.used, bytes)
-    }
+    ghost use Rattle.tape.specs.Tapes.{used_parts, tape_held, tape_free};
 
     /// An empty register over these bytes, whatever they hold. There is a free place for each
     /// whole record that fits; what is left over at the end is never written.
@@ -95,22 +36,32 @@ impl<'a> Tape<'a> {
     {
         Tape { bytes, used: 0 }
     }
+
+    // The used places.
+    fn parts(&self) -> &[[u8; SIZE]]
+        ensures { result.now ≡ used_parts self.now.used self.now.bytes.now }
+    {
+        let (parts, _) = self.bytes.as_chunks::<SIZE>();
+        &parts[..self.used]
+    }
 }
 
 impl<'a> Register for Tape<'a> {
+    ghost use Rattle.tape.specs.Tapes.{entered_on, tape_held, tape_free};
+
     ghost held = { tape_held };
 
     ghost free = { tape_free };
 
     fn ask(&self, r: &Record) -> bool {
-        match r.pack() {
-            Ok(bytes) => self.has(&bytes),
-            Err(_) => false,
-        }
+        let Ok(bytes) = r.pack() else {
+            return false;
+        };
+        has(self.parts(), &bytes)
     }
 
     fn is_empty(&self) -> bool {
-        no_part_holds(self.bytes, self.used)
+        holds_nothing(self.parts())
     }
 
     /// A new statement goes to the lowest free place. Nothing else of the caller's memory changes.
@@ -119,16 +70,17 @@ impl<'a> Register for Tape<'a> {
         ensures bytes { self.new.bytes.now ≡ entered_on self.old.used self.old.bytes.now r.now }
         ensures lent { self.new.bytes.ghost_name ≡ self.old.bytes.ghost_name }
     {
-        let bytes = r.pack()?;
-        if self.has(&bytes) {
+        // The steps of a table's enter, but packing checks the layout, and places are bytes.
+        let part = r.pack()?;
+        if has(self.parts(), &part) {
             return Ok(());
         }
-        if self.used >= self.bytes.len() / SIZE {
-            return Err(FULL);
+        if self.used == self.bytes.len() / SIZE {
+            return Err(Ground::RegisterFull.into());
         }
-        let used = self.used;
-        put(self.bytes, used, &bytes);
-        self.used = used + 1;
+        let start = SIZE * self.used;
+        self.bytes[start..start + SIZE].copy_from_slice(&part);
+        self.used += 1;
         Ok(())
     }
 }

@@ -1,8 +1,9 @@
-use Rattle.std.proofs.Common.{◌≡◌, true, false, ap, ◌∙◌, rules}
+use Rattle.std.proofs.Common.{◌≡◌, ◌<◌, true, false, refl, rules}
 use Rattle.record.specs.Layout.{keeps_layout}
 use Rattle.record.specs.Packed.{packed}
-use Rattle.tape.specs.Tapes.{replaced, tape_held}
-use Rattle.tape.proofs.Places.{put_enters, put_is_entered}
+use Rattle.record.specs.Tapes.{places}
+use Rattle.tape.specs.Tapes.{tape_held}
+use Rattle.tape.proofs.Places.{put_replaces, put_enters, put_is_entered}
 use Rattle.tape.proofs.TapeRegister.enter.Goals as goal
 
 pub returns : goal.returns
@@ -11,6 +12,11 @@ returns c =
     let r = c.args.r.now in
     let kept : keeps_layout r ≡ true = search rules in
     let absent : tape_held t r ≡ false = search rules in
-    let bytes : c.in_ok-bytes.bytes ≡ packed r = search rules in
-    let written : c.put.new.tape ≡ replaced t.used t.bytes.now (packed r) = c.put.ensures ∙ ap (replaced t.used t.bytes.now) bytes in
-    search (rules, put_enters, put_is_entered)
+    let room : t.used < places t.bytes.now = search rules in
+    let bytes : c.copy_from_slice.new.self ≡ packed r = search rules in
+    let written = put_replaces t.used t.bytes.now c.copy_from_slice.new.self (packed r) bytes in
+    record {
+      entered = put_enters t.used t.bytes.now r room kept absent _ written;
+      bytes = put_is_entered t.used t.bytes.now r room kept absent _ written;
+      lent = refl;
+    }

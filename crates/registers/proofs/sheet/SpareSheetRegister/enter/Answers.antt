@@ -1,13 +1,7 @@
-use Rattle.std.proofs.Common.{◌≡◌, true, false, is_ok, rules}
+use Rattle.std.proofs.Common.{◌≡◌, false, is_ok, rules}
 use Rattle.registers.specs.Sheets.{sheet_held}
-use Rattle.registers.proofs.Together.{entered_first, entered_second, granted_below, refused_below}
+use Rattle.registers.proofs.Together.{entered_second, refused_below}
 use Rattle.registers.proofs.sheet.SpareSheetRegister.enter.Goals as goal
-
-pub returns-then-is_ok : goal.returns-then-is_ok
-returns-then-is_ok g c =
-    let absent : sheet_held c.args.self.now.sheet c.args.r.now ≡ false = search rules in
-    let granted : is_ok c.enter.result ≡ true = search rules in
-    search (rules, entered_first, granted_below)
 
 pub returns : goal.returns
 returns g c =

@@ -1,0 +1,24 @@
+//! Parts of a tape, 20 bytes each.
+ghost use Rattle.std.specs.Prelude.{◌≡◌};
+ghost use Rattle.std.specs.Str.{bytes_eq};
+ghost use Rattle.register.specs.Sets.{Emptiness};
+ghost use Rattle.register.specs.Stored.{stored};
+ghost use Rattle.std.specs.List.{list_any};
+ghost use Rattle.tape.specs.Tapes.{has_bytes};
+
+use record::{Record, SIZE};
+
+// Whether one of the parts has just these bytes. With `contains` in place of `any` a tape's ask
+// takes up to 1.5 times as long.
+pub(crate) fn has(parts: &[[u8; SIZE]], bytes: &[u8; SIZE]) -> bool
+    ensures { result ≡ list_any (λ y. bytes_eq y bytes.now) parts.now }
+{
+    parts.iter().any(|part| part == bytes)
+}
+
+// Whether none of the parts holds a statement.
+pub(crate) fn holds_nothing(parts: &[[u8; SIZE]]) -> bool
+    ensures { Emptiness (stored has_bytes parts.now) result }
+{
+    !parts.iter().any(|part| Record::unpack(part).is_ok())
+}
