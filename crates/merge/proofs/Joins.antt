@@ -1,11 +1,12 @@
 -- Recursions over picks in which the order does not matter, and loops over the picks.
-use Rattle.std.proofs.Common.{◌≡◌, ℕ, ◌+◌, ◌/◌, ◌<◌, ◌≤◌, max, Bool, true, false, cond, eqb, List, [], ◌∷◌, length, get_or, drop, sym, refl, ap, ◌∙◌, ap₂, arith}
+use Rattle.std.proofs.Common.{◌≡◌, ℕ, ◌+◌, ◌/◌, ◌<◌, max, Bool, true, false, cond, eqb, List, [], ◌∷◌, length, get_or, drop, sym, refl, ap, ◌∙◌, subst, ap₂, arith}
 use mathlib.Core.List.{Perm, Permᴰ}
 use mathlib.Core.Logic.{∥∥₁_elim}
 use native.Mathlib.Nat.{ℕ_set}
 use lib.Arith.{bin_ind}
 use lib.Bits.{bit_or, or_step, or_shr, or_zero_l, or_comm}
-use Rattle.std.proofs.lemmas.List.{at_drop_more, at_drop_all}
+use Rattle.std.specs.List.{fold}
+use Rattle.std.proofs.lemmas.List.{at_drop_more}
 use Rattle.std.proofs.lemmas.Bool.{eq-eqb, ne_eqb, cond-true, cond-false}
 use Rattle.record.specs.declared.Record.{Record}
 use Rattle.merge.specs.Merges.{top, merged_length, merged_word}
@@ -92,47 +93,26 @@ module _ {t : ℕ} {g : ℕ → ℕ → ℕ} {x : Record → ℕ} {f : ℕ → L
         ∙ sym (at_drop_more (f n) ps i d l)
         ∙ h
 
-    join_none : length ps ≤ i → n ≡ k
-    join_none l = sym (j.none n) ∙ sym (at_drop_all (f n) ps i l) ∙ h
-
--- what a loop over the picks has joined, and what is left
-module _ (ps : List Record) (i t n w n₀ w₀ : ℕ) where
+-- what a loop over the picks has joined to the line m, from the line n, and what is left
+module _ (ps : List Record) (i t : ℕ) (m n : ℕ × ℕ) where
   abbrev pub Joined : Type 0
-  Joined = (merged_length t n (drop i ps) ≡ merged_length t n₀ ps) × (merged_word t w (drop i ps) ≡ merged_word t w₀ ps)
+  Joined = (merged_length t m.0 (drop i ps) ≡ merged_length t n.0 ps) × (merged_word t m.1 (drop i ps) ≡ merged_word t n.1 ps)
 
-module _ (ps : List Record) (i t n w n₀ w₀ : ℕ) (h : Joined ps i t n w n₀ w₀) where
-  -- the loop goes on with the numbers m and v
-  module _ (m v : ℕ) (d : Record) (l : i < length ps) where
-    pub line_more : (get_or ps i d).last ≡ t → m ≡ max n (get_or ps i d).slot → v ≡ bit_or w (get_or ps i d).word → Joined ps (i + 1) t m v n₀ w₀
-    line_more e longer wider = (
-      ap (λ (x : ℕ). merged_length t x (drop (i + 1) ps)) longer
-          ∙ join_more (joins_reaches t) ps i n _ h.0 d l e,
-      ap (λ (x : ℕ). merged_word t x (drop (i + 1) ps)) wider
-          ∙ join_more (joins_words t) ps i w _ h.1 d l e,
-    )
+module _ (ps : List Record) (i t : ℕ) (m n : ℕ × ℕ) (h : Joined ps i t m n) where
+  -- the loop goes on with the line k
+  module _ (k : ℕ × ℕ) (d : Record) (l : i < length ps) where
+    pub line_more : (get_or ps i d).last ≡ t → k ≡ (max m.0 (get_or ps i d).slot, bit_or m.1 (get_or ps i d).word) → Joined ps (i + 1) t k n
+    line_more e is =
+        subst (λ (x : ℕ × ℕ). Joined ps (i + 1) t x n) (sym is) (join_more (joins_reaches t) ps i m.0 _ h.0 d l e, join_more (joins_words t) ps i m.1 _ h.1 d l e)
 
-    pub line_past : ((get_or ps i d).last ≡ t → ⊥) → m ≡ n → v ≡ w → Joined ps (i + 1) t m v n₀ w₀
-    line_past e longer wider = (
-      ap (λ (x : ℕ). merged_length t x (drop (i + 1) ps)) longer
-          ∙ join_past (joins_reaches t) ps i n _ h.0 d l e,
-      ap (λ (x : ℕ). merged_word t x (drop (i + 1) ps)) wider
-          ∙ join_past (joins_words t) ps i w _ h.1 d l e,
-    )
+    pub line_past : ((get_or ps i d).last ≡ t → ⊥) → k ≡ m → Joined ps (i + 1) t k n
+    line_past e is =
+        subst (λ (x : ℕ × ℕ). Joined ps (i + 1) t x n) (sym is) (join_past (joins_reaches t) ps i m.0 _ h.0 d l e, join_past (joins_words t) ps i m.1 _ h.1 d l e)
 
-  pub line_none : length ps ≤ i → ◌≡◌ {A = ℕ × ℕ} (n, w) (merged_length t n₀ ps, merged_word t w₀ ps)
-  line_none l =
-      ap₂ (λ (x y : ℕ). (x, y))
-      (join_none (joins_reaches t) ps i n _ h.0 l)
-      (join_none (joins_words t) ps i w _ h.1 l)
+-- the top, from the first pick on
+top_from : (ps : List Record) (n : ℕ) → fold (λ a p. max a p.last) n ps ≡ max n (top ps)
+top_from [] n = omega arith
+top_from (p ∷ ps) n = omega (arith, top_from ps (max n p.last))
 
--- a loop that looks for the top
-module _ (ps : List Record) (i : ℕ) where
-  pub top_more : (d : Record) (t : ℕ) → i < length ps → max (top (drop i ps)) t ≡ top ps → max (top (drop (i + 1) ps)) (max (get_or ps i d).last t) ≡ top ps
-  top_more d t l h =
-      let e : top (drop i ps) ≡ max (get_or ps i d).last (top (drop (i + 1) ps)) = at_drop_more top ps i d l in
-      omega (arith, e)
-
-  pub top_none : (t : ℕ) → length ps ≤ i → max (top (drop i ps)) t ≡ top ps → t ≡ top ps
-  top_none t l h =
-      let e : ◌≡◌ {A = ℕ} (top (drop i ps)) 0 = at_drop_all top ps i l in
-      omega (arith, e)
+pub top_fold : (ps : List Record) → top ps ≡ fold (λ a p. max a p.last) 0 ps
+top_fold ps = omega (arith, top_from ps 0)

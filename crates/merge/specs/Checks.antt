@@ -1,6 +1,7 @@
 -- What picks must be for a merge, as the grounds that are tried and as the facts that a grant tells.
 -- Throughout, s is the register's set, there are n replicas and a quorum is q of them.
 --   first_fault g t k ps           — refused on the ground g at the first place whose pick fails the test t; the first of ps stands at the place k
+--   Computes g t                   — what g says of a call's answer, to some picks and one more, is that it is the test t's
 --   layout_grounds ps              — refused at the first pick that breaks the layout
 --   signs ps i                     — whether i is the signer of one of ps
 --   fits n m v t before p          — p is a VIEW-CHANGE for the view v by a replica below n that signs none of the picks before it; and, if its last is t, its reach is at most m, the number of stamped slots
@@ -19,7 +20,8 @@
 --   Picked s n q m v t p           — p is a good pick for the view v where t is the greatest last
 --   Checked s n q m v ps b         — ps are good picks for the view v over the base b
 use Rattle.std.specs.Prelude.{◌≡◌, ℕ, zero, suc, ◌+◌, ◌<◌, ◌≤◌, Bool, true, cond, not, ◌&&◌, ◌||◌, ◌≢◌, ◌⊎◌, List, [], ◌∷◌, length, take, Ok, Err, Result, ◌==◌, nat_eq, nat_le, nat_lt}
-use Rattle.std.specs.List.{AllByRecursion}
+use Rattle.std.specs.Borrow.{Bor}
+use Rattle.std.specs.List.{AllByRecursion, list_any}
 use Rattle.refusal.specs.Grounds.{Answer, unless, and_then}
 use Rattle.refusal.specs.declared.Ground.{Ground}
 use Rattle.refusal.specs.declared.Ground.TheVariants.{Layout, Picks, BaseNotCertified, StatementsMissing}
@@ -28,7 +30,6 @@ use Rattle.record.specs.Layout.{keeps_layout}
 use Rattle.record.specs.Statements.{prepare_by, entry_by}
 use Rattle.record.specs.declared.Record.{Record}
 use Rattle.register.specs.Sets.{Set}
-use Rattle.register.specs.Stored.{any}
 use Rattle.quorum.specs.Quorums.{quorum, Quorum}
 use Rattle.replica.specs.Words.{bit}
 use Rattle.merge.specs.Merges.{top, merge}
@@ -37,11 +38,14 @@ abbrev pub first_fault : Ground → (ℕ → Record → Bool) → ℕ → List R
 first_fault g t k [] = Ok tt
 first_fault g t k (p ∷ ps) = unless (t k p) g k (first_fault g t (k + 1) ps)
 
+abbrev pub Computes : (Bor (List Record) → Bor Record → Bool → Type 0) → (List Record → Record → Bool) → Type 0
+Computes g t = (before : Bor (List Record)) (pick : Bor Record) (b : Bool) → g before pick b → b ≡ t before.now pick.now
+
 abbrev pub layout_grounds : List Record → Answer
 layout_grounds ps = first_fault Layout (λ _ p. keeps_layout p) 0 ps
 
 abbrev pub signs : List Record → ℕ → Bool
-signs ps i = any (λ p. nat_eq p.signer i) ps
+signs ps i = list_any (λ p. nat_eq p.signer i) ps
 
 abbrev pub fits : (n m v t : ℕ) → List Record → Record → Bool
 fits n m v t before p =

@@ -3,62 +3,54 @@ ghost use Rattle.std.specs.Prelude.{◌≡◌};
 ghost use Rattle.record.specs.Statements.{prepare_by};
 ghost use Rattle.merge.specs.Checks.{prepared, backed, backing_grounds};
 
-use crate::picks::refused;
-use quorum::reached;
+use crate::picks::first_fault;
+use quorum::Membership;
 use record::{Kind, Record};
 use refusal::{Ground, Refusal};
 use register::Register;
-use replica::bit;
+use replica::{Verdict, bit};
+
+// Register and members stay two arguments: a type of both would only be for the few functions here.
 
 // PREPARE of no-op for a slot in a view, by replica 0.
 fn prepare_no_op(view: u8, slot: u8) -> Record
     ensures { result ≡ prepare_by 0 view slot 1 }
 {
     Record {
-        kind: Kind::Prepare as u8,
-        signer: 0,
+        kind: Kind::Prepare.into(),
         view,
-        last: 0,
         slot,
-        verdict: 1,
-        word: 0,
-        result: 0,
+        verdict: Verdict::NoOp.into(),
+        ..Record::default()
     }
 }
 
 // Whether a quorum said PREPARE of no-op in the view for each slot whose bit the word has.
-fn prepared<R: Register>(register: &R, n: u8, q: u8, view: u8, word: u64) -> bool
-    ensures { result ≡ prepared (R.held register.now) n q view word }
+fn prepared<R: Register>(register: &R, members: Membership, view: u8, word: u64) -> bool
+    ensures { result ≡ prepared (R.held register.now) members.replicas members.quorum view word }
 {
-    for slot in 0..64 {
-        if bit(word, slot) && !reached(register, &prepare_no_op(view, slot), n, q) {
-            return false;
-        }
-    }
-    true
+    (0..64).all(|slot| !bit(word, slot) || members.reached(register, &prepare_no_op(view, slot)))
 }
 
 // Whether a pick is in the register and, if its last is `top`, its word is prepared in that view.
-fn backed<R: Register>(register: &R, n: u8, q: u8, top: u8, pick: &Record) -> bool
-    ensures { result ≡ backed (R.held register.now) n q top pick.now }
+fn backed<R: Register>(register: &R, members: Membership, top: u8, pick: &Record) -> bool
+    ensures { result ≡ backed (R.held register.now) members.replicas members.quorum top pick.now }
 {
-    register.ask(pick) && (pick.last != top || prepared(register, n, q, top, pick.word))
+    register.ask(pick) && (pick.last != top || prepared(register, members, top, pick.word))
 }
 
 // Refuses the first pick that is not backed, at its place.
 pub(crate) fn check_backing<R: Register>(
     register: &R,
-    n: u8,
-    q: u8,
+    members: Membership,
     top: u8,
     picks: &[Record],
 ) -> Result<(), Refusal>
-    ensures { result ≡ backing_grounds (R.held register.now) n q top picks.now }
+    ensures { result ≡ backing_grounds (R.held register.now) members.replicas members.quorum top picks.now }
 {
-    for (place, pick) in picks.iter().enumerate() {
-        if !backed(register, n, q, top, pick) {
-            return Err(refused(Ground::StatementsMissing, place));
-        }
-    }
-    Ok(())
+    first_fault(
+        picks,
+        Ground::StatementsMissing,
+        |_, pick| backed(register, members, top, pick),
+    )
 }

@@ -3,8 +3,7 @@ ghost use Rattle.std.specs.Prelude.{◌≡◌};
 ghost use Rattle.record.specs.Statements.{entry_by};
 ghost use Rattle.merge.specs.Checks.{certified, base_grounds};
 
-use crate::picks::refused;
-use quorum::reached;
+use quorum::Membership;
 use record::{Kind, Record};
 use refusal::{Ground, Refusal};
 use register::Register;
@@ -15,39 +14,36 @@ fn entry(view: u8, line: (u8, u64)) -> Record
 {
     let (length, word) = line;
     Record {
-        kind: Kind::Entry as u8,
-        signer: 0,
+        kind: Kind::Entry.into(),
         view,
-        last: 0,
         slot: length,
-        verdict: 0,
         word,
-        result: 0,
+        ..Record::default()
     }
 }
 
 // Whether the base is certified for the view: 0 and 0 for view 0, else a quorum said ENTRY with it.
-fn certified<R: Register>(register: &R, n: u8, q: u8, view: u8, base: (u8, u64)) -> bool
-    ensures { result ≡ certified (R.held register.now) n q view base }
+fn certified<R: Register>(register: &R, members: Membership, view: u8, base: (u8, u64)) -> bool
+    ensures { result ≡ certified (R.held register.now) members.replicas members.quorum view base }
 {
     if view == 0 {
-        return base.0 == 0 && base.1 == 0;
+        base == (0, 0)
+    } else {
+        members.reached(register, &entry(view, base))
     }
-    reached(register, &entry(view, base), n, q)
 }
 
 // Refuses a base that is not certified for the view.
 pub(crate) fn check_base<R: Register>(
     register: &R,
-    n: u8,
-    q: u8,
+    members: Membership,
     view: u8,
     base: (u8, u64),
 ) -> Result<(), Refusal>
-    ensures { result ≡ base_grounds (R.held register.now) n q view base }
+    ensures { result ≡ base_grounds (R.held register.now) members.replicas members.quorum view base }
 {
-    if !certified(register, n, q, view, base) {
-        return Err(refused(Ground::BaseNotCertified, 0));
+    if !certified(register, members, view, base) {
+        return Err(Ground::BaseNotCertified.into());
     }
     Ok(())
 }

@@ -5,6 +5,8 @@ mod backing;
 mod base;
 mod line;
 mod picks;
+mod view_change;
 
-pub use line::{merge, merging};
+pub use line::merge;
 pub use picks::{check_layout, top};
+pub use view_change::ViewChange;

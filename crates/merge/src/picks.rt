@@ -1,87 +1,55 @@
 //! Picks by themselves: what is asked of them that no register is asked about.
-ghost use Rattle.std.specs.Prelude.{◌≡◌};
-ghost use Rattle.refusal.specs.Grounds.{refused};
+ghost use Rattle.std.specs.Prelude.{◌≡◌, Bool, List, take};
+ghost use Rattle.record.specs.Layout.{keeps_layout};
+ghost use Rattle.record.specs.declared.Record.{Record};
 ghost use Rattle.merge.specs.Merges.{top};
-ghost use Rattle.merge.specs.Checks.{layout_grounds, signs, fits, pick_grounds};
+ghost use Rattle.merge.specs.Checks.{first_fault, Computes, layout_grounds, signs};
 
-use record::{Kind, Record};
+use record::Record;
 use refusal::{Ground, Refusal};
 
-// The refusal on a ground, at a place in a list of picks.
-pub(crate) fn refused(ground: Ground, place: usize) -> Refusal
-    ensures { result ≡ refused ground place }
+// Refuses the first pick that fails the test, at its place. The test sees the picks before it too.
+// A rule of the project: picks are checked by `for`, with the index for the place of a refusal.
+pub(crate) fn first_fault<F: Fn(&[Record], &Record) -> bool>(
+    picks: &[Record],
+    why: Ground,
+    passes: F,
+) -> Result<(), Refusal>
+    requires { F.IsAlwaysCallable passes }
+    ensures { (t : List Record → Record → Bool) → Computes (F.post passes) t → result ≡ first_fault why (λ k p. t (take k picks.now) p) 0 picks.now }
 {
-    Refusal {
-        ground,
-        place: place as u64,
+    for (place, pick) in picks.iter().enumerate() {
+        if !passes(&picks[..place], pick) {
+            return Err(why.at(place as u64));
+        }
     }
+    Ok(())
 }
 
 /// Refuses the first pick that breaks the layout, at its place.
 pub fn check_layout(picks: &[Record]) -> Result<(), Refusal>
     ensures { result ≡ layout_grounds picks.now }
 {
-    for (place, pick) in picks.iter().enumerate() {
-        if !pick.keeps_layout() {
-            return Err(refused(Ground::Layout, place));
-        }
-    }
-    Ok(())
+    first_fault(
+        picks,
+        Ground::Layout,
+        |_, pick|
+            ensures { result ≡ keeps_layout pick.now }
+        { pick.keeps_layout() },
+    )
 }
 
 /// The greatest of the views that the picks' signers left; 0 where there is no pick.
+#[tactic(auto, using(crate::proofs::Joins::top_fold))]
 pub fn top(picks: &[Record]) -> u8
     ensures { result ≡ top picks.now }
 {
-    let mut top = 0;
-    for pick in picks {
-        top = pick.last.max(top);
-    }
-    top
+    picks.iter().fold(0, |top, pick| top.max(pick.last))
 }
 
 // Whether `signer` signs one of the picks.
-fn signs(picks: &[Record], signer: u8) -> bool
+pub(crate) fn signs(picks: &[Record], signer: u8) -> bool
     ensures { result ≡ signs picks.now signer }
 {
-    for pick in picks {
-        if pick.signer == signer {
-            return true;
-        }
-    }
-    false
-}
-
-// Whether a pick fits after those before it: it is a VIEW-CHANGE for the view `target` by a replica
-// below `n` that signs none of them, and, if its last is `top`, its reach is at most `stamped`.
-fn fits(n: u8, stamped: u8, target: u8, top: u8, before: &[Record], pick: &Record) -> bool
-    ensures { result ≡ fits n stamped target top before.now pick.now }
-{
-    pick.kind == Kind::ViewChange as u8
-        && pick.signer < n
-        && !signs(before, pick.signer)
-        && pick.view == target
-        && (pick.last != top || pick.slot <= stamped)
-}
-
-// Refuses unless there are `q` picks; then refuses the first that does not fit, at its place.
-pub(crate) fn check_picks(
-    n: u8,
-    q: u8,
-    stamped: u8,
-    target: u8,
-    picks: &[Record],
-) -> Result<(), Refusal>
-    ensures { result ≡ pick_grounds n q stamped target picks.now }
-{
-    if picks.len() != usize::from(q) {
-        return Err(refused(Ground::Picks, 0));
-    }
-    let top = top(picks);
-    for (place, pick) in picks.iter().enumerate() {
-        if !fits(n, stamped, target, top, &picks[..place], pick) {
-            return Err(refused(Ground::Picks, place));
-        }
-    }
-    Ok(())
+    picks.iter().any(|pick| pick.signer == signer)
 }

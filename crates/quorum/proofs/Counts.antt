@@ -1,6 +1,8 @@
 -- A count, one number more.
-use Rattle.std.proofs.Common.{◌≡◌, ℕ, zero, suc, ◌+◌, ◌≤◌, Bool, true, false, cond, refl, ap, ◌∙◌, inl, inr, add-one, arith}
+use Rattle.std.proofs.Common.{List, [], ◌∷◌, ◌++◌, length, length-append, ◌≡◌, ℕ, zero, suc, ◌+◌, ◌≤◌, Bool, true, false, cond, refl, ap, ◌∙◌, inl, inr, add-one, sym, ap₂, map-id, arith}
 use Rattle.std.proofs.lemmas.Bool.{cases_Bool, cases_eq}
+use Rattle.std.specs.List.{filter, range_with_len}
+use Rattle.std.proofs.lemmas.List.FromFn.{filter_of_map_range_with_len_more}
 use Rattle.quorum.specs.Quorums.{count}
 
 module _ (p : ℕ → Bool) where
@@ -38,3 +40,26 @@ module _ (p : ℕ → Bool) where
         | inl e ↦ let f = ap (λ (k : ℕ). count k p) e in omega (arith, f)
         | inr e ↦ let r = rest (omega arith) in omega (arith, r)
       ]
+
+-- ---- the numbers that pass, in a list
+
+-- the numbers below n that pass the test p, rising
+abbrev pub passing : ℕ → (ℕ → Bool) → List ℕ
+passing n p = filter p (range_with_len 0 n)
+
+length_one : (n : ℕ) (b : Bool) → length (cond b (n ∷ []) []) ≡ cond b 1 0
+length_one n true = refl
+length_one n false = refl
+
+module _ (p : ℕ → Bool) where
+  passing_more : (n : ℕ) → passing (n + 1) p ≡ passing n p ++ cond (p n) (n ∷ []) []
+  passing_more n = simp map-id at (filter_of_map_range_with_len_more p (λ k. k) 0 n n (omega arith))
+
+  pub length-passing : (n : ℕ) → length (passing n p) ≡ count n p
+  unfolding count
+  length-passing zero = refl
+  length-passing (suc n) =
+      ap (λ (k : ℕ). length (passing k p)) (sym (add-one n))
+      ∙ ap length (passing_more n)
+      ∙ length-append (passing n p) (cond (p n) (n ∷ []) [])
+      ∙ ap₂ ◌+◌ (length-passing n) (length_one n (p n))

@@ -6,7 +6,10 @@
 --   Quorum s n q r     — the same as a fact
 --   Witnesses n q p w  — the first q numbers of w are different, are below n and pass the test p; the others are 0
 --   Finds n q p a      — a is what looking for q numbers below n that pass the test p answers: them, or nothing if there are fewer
-use Rattle.std.specs.Prelude.{◌≡◌, ℕ, zero, suc, ◌+◌, ◌<◌, ◌≤◌, Bool, true, cond, List, Some, None, Option, ◌≢◌, nat_le, slice_index}
+--   IsNext p s t i     — i is the first number of the range s that passes the test p; it is below 16, and the range t is what is left after it
+--   FindsNext p s t a  — a is what looking for the first number of s that passes p answers, where t is left: that number, or nothing if none passes
+use Rattle.std.specs.declared.ops.Range.{Range}
+use Rattle.std.specs.Prelude.{◌≡◌, ℕ, zero, suc, ◌+◌, ◌<◌, ◌≤◌, Bool, true, false, cond, List, Some, None, Option, ◌≢◌, nat_le, slice_index}
 use Rattle.record.specs.declared.Record.{Record}
 use Rattle.register.specs.Sets.{Set}
 
@@ -45,3 +48,17 @@ pub record Witnesses (n q : ℕ) (p : ℕ → Bool) (w : List ℕ) : Type 0 wher
 abbrev pub Finds : ℕ → ℕ → (ℕ → Bool) → Option (List ℕ) → Type 0
 Finds n q p (Some w) = (q ≤ count n p) × Witnesses n q p w
 Finds n q p None = count n p < q
+
+-- i is the first in the range s that passes, and t is what is left of the range
+pub record IsNext (p : ℕ → Bool) (s t : Range ℕ) (i : ℕ) : Type 0 where
+  pub from : s.start ≤ i
+  pub below : i < s.end
+  pub signer : i < 16
+  pub pass : p i ≡ true
+  pub before : (k : ℕ) → s.start ≤ k → k < i → p k ≡ false
+  pub rest_start : t.start ≡ i + 1
+  pub rest_end : t.end ≡ s.end
+
+abbrev pub FindsNext : (ℕ → Bool) → Range ℕ → Range ℕ → Option ℕ → Type 0
+FindsNext p s t (Some i) = IsNext p s t i
+FindsNext p s t None = (k : ℕ) → s.start ≤ k → k < s.end → p k ≡ false

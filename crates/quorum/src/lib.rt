@@ -2,10 +2,11 @@
 #![tactic(auto)]
 
 ghost use Rattle.std.specs.Prelude.{◌≡◌, ◌<◌, true};
-ghost use Rattle.quorum.specs.Quorums.{signed_by, said, count, quorum, Finds};
+ghost use Rattle.quorum.specs.Quorums.{signed_by, said, count, quorum, Finds, FindsNext};
 
 use record::Record;
 use register::Register;
+use std::ops::Range;
 
 /// The greatest number of signers that a statement can have.
 pub const SIGNERS: usize = 16;
@@ -28,50 +29,59 @@ fn said<R: Register>(register: &R, statement: &Record, replica: u8) -> bool
     register.ask(&signed_by(statement, replica))
 }
 
+// The numbers of `n` replicas.
+fn numbers(n: u8) -> Range<u8>
+    ensures { result ≡ record { start = 0; end = n } }
+{
+    0..n
+}
+
+// The next replica in the range that said the statement; the range goes on after it.
+fn next_sayer<R: Register>(register: &R, statement: &Record, replicas: &mut Range<u8>) -> Option<u8>
+    ensures { FindsNext (said (R.held register.now) statement.now) replicas.old replicas.new result }
+{
+    replicas.find(|&replica| said(register, statement, replica))
+}
+
 /// How many of the replicas below `n` said the statement, each under its own number.
 pub fn count<R: Register>(register: &R, statement: &Record, n: u8) -> u8
     ensures { result ≡ count n (said (R.held register.now) statement.now) }
 {
-    let mut count = 0;
-    for signer in 0..n {
-        if said(register, statement, signer) {
-            count += 1;
-        }
-    }
-    count
+    numbers(n)
+        .filter(|&signer| said(register, statement, signer))
+        .count() as u8
 }
 
-/// `q` different replicas below `n` that said the statement, in the first `q` bytes; the others
-/// are 0. Nothing if fewer than `q` said it.
-pub fn witnesses<R: Register>(
-    register: &R,
-    statement: &Record,
-    n: u8,
-    q: u8,
-) -> Option<[u8; SIGNERS]>
-    ensures { Finds n q (said (R.held register.now) statement.now) result }
-{
-    let mut found = [0; SIGNERS];
-    let mut count = 0;
-    for replica in 0..n {
-        if count == usize::from(q) {
-            break;
-        }
-        if !said(register, statement, replica) {
-            continue;
-        }
-        found[count] = replica;
-        count += 1;
-    }
-    if count < usize::from(q) {
-        return None;
-    }
-    Some(found)
+/// The replicas of a ledger. Any two numbers will do: a quorum that cannot be reached is not
+/// reached.
+#[derive(Clone, Copy, PartialEq, Eq, Debug)]
+pub struct Membership {
+    /// How many replicas there are, numbered from 0.
+    pub replicas: u8,
+    /// How many of them are a quorum.
+    pub quorum: u8,
 }
 
-/// Whether at least `q` of the replicas below `n` said the statement.
-pub fn reached<R: Register>(register: &R, statement: &Record, n: u8, q: u8) -> bool
-    ensures { result ≡ quorum (R.held register.now) n q statement.now }
-{
-    witnesses(register, statement, n, q).is_some()
+impl Membership {
+    /// A quorum of different replicas that said the statement, in the first `quorum` bytes; the
+    /// others are 0. Nothing if fewer said it.
+    #[tactic(auto, using(crate::proofs::Finding::found_few, crate::proofs::Finding::found_enough))]
+    pub fn witnesses<R: Register>(self, register: &R, statement: &Record) -> Option<[u8; SIGNERS]>
+        ensures { Finds self.replicas self.quorum (said (R.held register.now) statement.now) result }
+    {
+        let mut replicas = numbers(self.replicas);
+        let mut found = [0; SIGNERS];
+        // By place, not over the first `quorum` bytes: that 16 are enough shows only by asking.
+        for place in 0..usize::from(self.quorum) {
+            found[place] = next_sayer(register, statement, &mut replicas)?;
+        }
+        Some(found)
+    }
+
+    /// Whether a quorum said the statement.
+    pub fn reached<R: Register>(self, register: &R, statement: &Record) -> bool
+        ensures { result ≡ quorum (R.held register.now) self.replicas self.quorum statement.now }
+    {
+        self.witnesses(register, statement).is_some()
+    }
 }

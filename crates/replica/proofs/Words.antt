@@ -1,9 +1,10 @@
 -- Laws of words: what their bits are, and how large they are.
 use Rattle.std.proofs.Common.{◌≡◌, ℕ, zero, suc, ◌+◌, ◌-◌, ◌*◌, ◌/◌, ◌%◌, ◌^◌, ◌<◌, ◌≤◌, max, Bool, true, false, cond, ◌||◌, eqb, ltb, sym, refl, ap, ◌∙◌, subst, ap₂, inl, inr, lt_of_lt_of_le, lt_of_le_of_lt, one-mul, pow-suc, add-one, one-add, arith, pow_mono, shr-shr}
-use native.Mathlib.Nat.{div-eq_of_lt}
+use native.Mathlib.Nat.{div-eq_of_lt, mod-eq_of_lt}
 use lib.Bits.{bit_and, bit_or, and_comm, and_shifted, and_step, and_zero_r, or_lt, or_shr, or_step, or_zero_r}
 use lib.Count.{leading_length}
 use lib.Pow.{field, mod-mod-pow, pow-lt}
+use Rattle.std.proofs.lemmas.Nat.{and_mask, pow_pos}
 use Rattle.std.proofs.lemmas.Bool.{both_ways, cases_lt, cond_both, cond-true, lt-ltb, ltb-true, or_left}
 use Rattle.std.proofs.lemmas.Bool.Decides.{nat_tests}
 use Rattle.replica.specs.declared.Verdict.{Verdict}
@@ -56,6 +57,9 @@ bit_mod (suc s) (suc l) w h =
 pub bit_above : (s l w : ℕ) → w < 2 ^ s → s ≤ l → bit w l ≡ false
 unfolding bit
 bit_above s l w h k = ap (λ (x : ℕ). eqb (x % 2) 1) (div-eq_of_lt (lt_of_lt_of_le h (pow_mono k)))
+
+pub none_above : (w l : ℕ) → w < 2 ^ 64 → 64 ≤ l → w / 2 ^ l ≡ 0
+none_above w l h k = div-eq_of_lt (lt_of_lt_of_le h (pow_mono k))
 
 one_test : (a b : ℕ) → a < 2 → b < 2 → eqb a 1 ≡ eqb b 1 → a ≡ b
 one_test a b p q e = grind (arith, nat_tests)
@@ -143,6 +147,28 @@ and_put (suc s) w =
     let e = and_put s (w / 2) in
     (omega (arith, and_step w (2 ^ suc s), e.0, e.1), omega (arith, and_step w (2 ^ suc s), e.0, e.1))
 
+-- a mask of k bits, all but the bit s set
+mask_put : (s k w : ℕ) → s < k → w < 2 ^ k → bit_and w (2 ^ k - 1 - 2 ^ s) ≡ put w s 0
+unfolding put
+mask_put s zero w l h = absurd (omega arith)
+mask_put zero (suc k) w l h =
+    let e = pow-suc 2 k in
+    let p = pow_pos k in
+    let half : w / 2 < 2 ^ k = omega arith in
+    let high : (2 ^ suc k - 1 - 1) / 2 ≡ 2 ^ k - 1 = omega arith in
+    let low : (2 ^ suc k - 1 - 1) % 2 ≡ 0 = omega arith in
+    let all : bit_and (w / 2) ((2 ^ suc k - 1 - 1) / 2) ≡ w / 2 = ap (bit_and (w / 2)) high ∙ and_mask (w / 2) k ∙ mod-eq_of_lt half in
+    omega (arith, and_step w (2 ^ suc k - 1 - 1))
+mask_put (suc s) (suc k) w l h =
+    let e = pow-suc 2 k in
+    let f = pow-suc 2 s in
+    let p : 2 ^ s < 2 ^ k = pow-lt (omega arith) in
+    let high : (2 ^ suc k - 1 - 2 ^ suc s) / 2 ≡ 2 ^ k - 1 - 2 ^ s = omega arith in
+    let low : (2 ^ suc k - 1 - 2 ^ suc s) % 2 ≡ 1 = omega arith in
+    let rest : bit_and (w / 2) ((2 ^ suc k - 1 - 2 ^ suc s) / 2) ≡ put (w / 2) s 0 =
+    ap (bit_and (w / 2)) high ∙ mask_put s k (w / 2) (omega arith) (omega arith) in
+    omega (arith, and_step w (2 ^ suc k - 1 - 2 ^ suc s))
+
 -- ---- with_bit and without_bit
 
 -- for a bit that there is
@@ -153,6 +179,12 @@ with_put w s h = cond-true _ _ _ (lt-ltb s 64 h) ∙ or_put s w
 without_put : (w s : ℕ) → without_bit w s ≡ put w s 0
 unfolding without_bit
 without_put w s = (and_put s w).0
+
+-- as a machine clears it
+pub without_mask : (w s : ℕ) → s < 64 → w < 2 ^ 64 → bit_and w (2 ^ 64 - 1 - 1 * 2 ^ s % 2 ^ 64) ≡ without_bit w s
+without_mask w s h k =
+    let fits : 1 * 2 ^ s % 2 ^ 64 ≡ 2 ^ s = ap (λ (m : ℕ). m % 2 ^ 64) (one-mul (2 ^ s)) ∙ mod-eq_of_lt (pow-lt h) in
+    ap (λ (m : ℕ). bit_and w (2 ^ 64 - 1 - m)) fits ∙ mask_put s 64 w h k ∙ sym (without_put w s)
 
 with_other : (w s l : ℕ) → (l ≡ s → ⊥) → bit (with_bit w s) l ≡ bit w l
 unfolding with_bit

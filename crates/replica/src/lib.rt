@@ -12,7 +12,7 @@ pub use word::bit;
 const SLOTS: u8 = 64;
 
 /// The verdict on a slot.
-#[derive(Clone, Copy)]
+#[derive(Clone, Copy, PartialEq, Eq, Debug)]
 pub enum Verdict {
     /// The slot has the operation that is stamped there.
     Operation = 0,
@@ -21,7 +21,7 @@ pub enum Verdict {
 }
 
 /// Whether a replica takes part in its view.
-#[derive(Clone, Copy)]
+#[derive(Clone, Copy, PartialEq, Eq, Debug)]
 pub enum Mode {
     /// The target is the view: the replica takes part in it.
     AtWork,
@@ -30,7 +30,7 @@ pub enum Mode {
 }
 
 /// What a replica is called to do.
-#[derive(Clone, Copy)]
+#[derive(Clone, Copy, PartialEq, Eq, Debug)]
 pub enum Step {
     /// To take part in its view: deliver, find, drop, decide, prepare, commit, settle, reply.
     Work,
@@ -43,7 +43,8 @@ pub enum Step {
 }
 
 /// What an honest replica holds. Every number is 0 when a bench opens.
-#[derive(Clone, Copy)]
+// A rule of the project: replicas lie as an array of plain structs. So the mark stands beside the target.
+#[derive(Clone, Copy, Default, PartialEq, Eq, Debug)]
 pub struct Replica {
     /// The view that it entered last.
     pub view: u8,

@@ -1,18 +1,21 @@
 //! Verdicts: their numbers, and what they make of a word.
+// Slot and verdict stay two arguments: statements and calls have them as two numbers.
 ghost use Rattle.std.specs.Prelude.{◌≡◌};
 ghost use Rattle.replica.specs.Verdicts.{verdict_number, other_verdict, with_verdict, sealed_with};
 
 use crate::Verdict;
 use crate::word::{with_bit, without_bit};
 
-impl Verdict {
-    /// The verdict's number in a statement: 0 for operation, 1 for no-op.
-    pub fn number(self) -> u8
-        ensures { result ≡ verdict_number self }
-    {
-        self as u8
-    }
+/// The verdict's number in a statement: 0 for operation, 1 for no-op.
+impl From<Verdict> for u8 {
+    ghost from_gives = { λ d n. n ≡ verdict_number d };
 
+    fn from(verdict: Verdict) -> u8 {
+        verdict as u8
+    }
+}
+
+impl Verdict {
     /// The other verdict.
     pub fn other(self) -> Verdict
         ensures { result ≡ other_verdict self }

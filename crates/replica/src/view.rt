@@ -12,15 +12,7 @@ impl Replica {
     pub fn new() -> Replica
         ensures { result ≡ still }
     {
-        Replica {
-            view: 0,
-            target: 0,
-            base: 0,
-            length: 0,
-            word: 0,
-            sealed: 0,
-            mark: false,
-        }
+        Replica::default()
     }
 
     /// Whether it takes part in its view.
@@ -38,13 +30,11 @@ impl Replica {
     pub fn admits(&self, step: Step) -> Result<(), Refusal>
         ensures { result ≡ in_mode self.now step (Ok tt) }
     {
+        // A rule of the project: a replica matches its mode together with the step.
         match (self.mode(), step) {
             (Mode::AtWork, Step::Work | Step::Leave | Step::Enter) => Ok(()),
             (Mode::Leaving, Step::Leave | Step::Start | Step::Enter) => Ok(()),
-            _ => Err(Refusal {
-                ground: Ground::Mode,
-                place: 0,
-            }),
+            _ => Err(Ground::Mode.into()),
         }
     }
 
@@ -71,6 +61,7 @@ impl Replica {
     }
 
     /// Enters a view with a line, and with nothing sealed there.
+    // Length and word, as the fields have them.
     pub fn enter(&mut self, view: u8, length: u8, word: u64)
         ensures { self.new ≡ entered view length word }
     {

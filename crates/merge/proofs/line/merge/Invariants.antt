@@ -2,4 +2,4 @@ use Rattle.merge.proofs.Joins.{Joined}
 use Rattle.merge.proofs.line.merge.Given as goal
 
 abbrev pub invariant-loop-pick : goal.invariant-loop-pick
-invariant-loop-pick l = Joined l.picks l.pick-index l.top l.length l.word l.initial.length l.initial.word
+invariant-loop-pick l = Joined l.picks l.pick-index l.top l.line l.initial.line

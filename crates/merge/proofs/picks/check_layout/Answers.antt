@@ -1,12 +1,6 @@
-use Rattle.std.proofs.Common.{rules}
-use Rattle.merge.proofs.Faults.{fault_more, fault_here, fault_none}
+use Rattle.std.proofs.Common.{rules, tests}
+use Rattle.record.specs.Layout.{keeps_layout}
 use Rattle.merge.proofs.picks.check_layout.Goals as goal
 
-pub returns-then-not-keeps_layout : goal.returns-then-not-keeps_layout
-returns-then-not-keeps_layout c = search (rules, fault_here)
-
-pub loop-place-preserved : goal.loop-place-preserved
-loop-place-preserved c = search (rules, fault_more)
-
 pub returns : goal.returns
-returns c = search (rules, fault_none)
+returns c = c.first_fault.ensures (λ _ p. keeps_layout p) (λ b p r e. search (rules, tests))
