@@ -1,5 +1,5 @@
-ghost use Rattle.std.specs.Prelude.{Some};
-ghost use Rattle.record.specs.Kinds.{Named, kind_text, unknown_text};
+ghost use Rattle.std.specs.Prelude.{◌≡◌, Some};
+ghost use Rattle.record.specs.Kinds.{Named, kind_number, kind_text, unknown_text};
 
 use std::error::Error;
 use std::fmt;
@@ -52,6 +52,16 @@ impl TryFrom<u8> for Kind {
     }
 }
 
+/// The number of a kind in a record.
+impl From<Kind> for u8 {
+    ghost from_gives = { λ k n. n ≡ kind_number k };
+
+    fn from(kind: Kind) -> u8 {
+        kind as u8
+    }
+}
+
+// Printing by hand, as a derived text has no contract.
 impl fmt::Display for Kind {
     ghost output = { λ k. Some (kind_text k) };
 

@@ -7,6 +7,7 @@ ghost use Rattle.record.specs.Heads.{head_of, with_head};
 use crate::{Record, SIZE};
 use refusal::{Ground, Refusal};
 
+// Methods, as `to_be_bytes` and `from_be_bytes` of numbers: they write and read one format.
 impl Record {
     /// The record's 20 bytes. A record that breaks the layout is refused.
     pub fn pack(&self) -> Result<[u8; SIZE], Refusal>
