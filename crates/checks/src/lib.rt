@@ -10,6 +10,7 @@ use allotment::Allotment;
 use rating::Rating;
 use service::Service;
 
+// The bits of operations by their layout: so the examples do not lean on the conversions to bits.
 const LOAD_LOW: u64 = (1 << 62) + (2000 << 31) + 3;
 
 const LOAD_HIGH: u64 = (1 << 62) + (1 << 59) + (2000 << 45) + (5000 << 31) + (6200 << 11) + 5;

@@ -1,7 +1,7 @@
 //! One text for every register: the same is done with a table, a tape and a spare sheet.
-use quorum::{count, reached, witnesses};
+use quorum::{Membership, count};
 use record::{Kind, Record};
-use refusal::Ground;
+use refusal::{Ground, Refusal};
 use register::Register;
 use registers::{SpareSheet, Table};
 use std::process::Abort;
@@ -11,18 +11,22 @@ use tape::Tape;
 // The statement of a signer about a slot in view 0.
 fn statement(kind: Kind, signer: u8, slot: u8) -> Record {
     Record {
-        kind: kind as u8,
+        kind: kind.into(),
         signer,
         slot,
         ..Record::default()
     }
 }
 
+fn at_0(ground: Ground) -> Refusal {
+    Refusal { ground, place: 0 }
+}
+
 // Enters one statement twice into an empty register, and one that breaks the layout.
 fn enters_once<R: Register>(rt: &impl Abort, register: &mut R, said: &Record, broken: &Record) {
     assert!(rt; register.is_empty());
     assert!(rt; !register.ask(said));
-    assert_eq!(rt; register.enter(broken), Err(Ground::Layout.into()));
+    assert_eq!(rt; register.enter(broken), Err(at_0(Ground::Layout)));
     assert!(rt; !register.ask(broken));
     assert!(rt; register.is_empty());
     assert_eq!(rt; register.enter(said), Ok(()));
@@ -48,11 +52,11 @@ fn run<R: Register>(rt: &impl Abort, register: &mut R, slots: u8) {
     enters_once(rt, register, &said, &broken);
     assert!(rt; !register.ask(&unsaid));
     fills(rt, register, slots);
-    assert_eq!(rt; register.enter(&unsaid), Err(Ground::RegisterFull.into()));
+    assert_eq!(rt; register.enter(&unsaid), Err(at_0(Ground::RegisterFull)));
     assert!(rt; !register.ask(&unsaid));
     assert_eq!(rt; register.enter(&said), Ok(()));
     assert_eq!(rt; register.enter(&statement(Kind::Drop, 2, 0)), Ok(()));
-    assert_eq!(rt; register.enter(&broken), Err(Ground::Layout.into()));
+    assert_eq!(rt; register.enter(&broken), Err(at_0(Ground::Layout)));
     assert!(rt; !register.is_empty());
 }
 
@@ -98,10 +102,11 @@ fn quorums_are_of_replicas_below_n(rt: HostRuntime) {
     let said = statement(Kind::Reply, 1, 1);
     assert_eq!(rt; count(&table, &said, 4), 3);
     assert_eq!(rt; count(&table, &said, 255), 4);
-    assert!(rt; reached(&table, &said, 4, 3));
-    assert!(rt; !reached(&table, &said, 3, 3));
-    assert!(rt; witnesses(&table, &said, 4, 4).is_none());
-    match witnesses(&table, &said, 4, 3) {
+    let members = |replicas, quorum| Membership { replicas, quorum };
+    assert!(rt; members(4, 3).reached(&table, &said));
+    assert!(rt; !members(3, 3).reached(&table, &said));
+    assert!(rt; members(4, 4).witnesses(&table, &said).is_none());
+    match members(4, 3).witnesses(&table, &said) {
         Some(found) => {
             for signer in &found[..3] {
                 assert!(rt; table.ask(&statement(Kind::Reply, *signer, 1)));

@@ -4,64 +4,53 @@ use record::{Kind, Reader, Record};
 use refusal::{Ground, Refusal};
 use std::test::Fail;
 
-// A record of a kind by replica 12, every other field 0.
-fn of(kind: Kind) -> Record {
+// A record of a kind by replica 12, in a view and about a slot, every other field 0.
+fn about(kind: Kind, view: u8, slot: u8) -> Record {
     Record {
-        kind: kind as u8,
+        kind: kind.into(),
         signer: 12,
+        view,
+        slot,
         ..Record::default()
     }
 }
 
-// The same with a view.
-fn of_view(kind: Kind, view: u8) -> Record {
-    Record { view, ..of(kind) }
+fn layout(place: u64) -> Refusal {
+    Refusal {
+        ground: Ground::Layout,
+        place,
+    }
 }
 
 // One record of each kind, in the order of their numbers.
 fn one_of_each_kind() -> [Record; 9] {
-    let slot = 63;
-    let word = 0x7fff_ffff_ffff_ffff;
-    let result = u64::MAX;
-    let full = of_view(Kind::Reply, 63);
     [
         Record {
-            slot,
-            word,
-            result,
-            ..full
+            word: 0x7fff_ffff_ffff_ffff,
+            result: u64::MAX,
+            ..about(Kind::Reply, 63, 63)
         },
+        about(Kind::Find, 0, 63),
+        about(Kind::Drop, 1, 0),
         Record {
-            slot,
-            ..of(Kind::Find)
-        },
-        of_view(Kind::Drop, 1),
-        Record {
-            slot: 5,
             verdict: 1,
-            ..of_view(Kind::Decision, 2)
+            ..about(Kind::Decision, 2, 5)
         },
+        about(Kind::Prepare, 2, 5),
         Record {
-            slot: 5,
-            ..of_view(Kind::Prepare, 2)
-        },
-        Record {
-            slot: 5,
             verdict: 1,
-            ..of_view(Kind::Commit, 2)
+            ..about(Kind::Commit, 2, 5)
         },
         Record {
             last: 62,
-            slot: 64,
             word: u64::MAX,
-            ..of_view(Kind::ViewChange, 63)
+            ..about(Kind::ViewChange, 63, 64)
         },
         Record {
-            slot: 64,
             word: 1 << 63,
-            ..of_view(Kind::ViewStart, 1)
+            ..about(Kind::ViewStart, 1, 64)
         },
-        of_view(Kind::Entry, 1),
+        about(Kind::Entry, 1, 0),
     ]
 }
 
@@ -78,8 +67,7 @@ fn each_kind_comes_back(rt: HostRuntime) -> Result<(), Fail> {
 
 // Records that break one rule each.
 fn broken() -> [Record; 12] {
-    let reply = of(Kind::Reply);
-    let entry = of_view(Kind::Entry, 1);
+    let reply = about(Kind::Reply, 0, 0);
     [
         Record { kind: 0, ..reply },
         Record {
@@ -87,8 +75,8 @@ fn broken() -> [Record; 12] {
             view: 1,
             ..reply
         },
-        Record { view: 64, ..reply },
-        Record { slot: 64, ..reply },
+        about(Kind::Reply, 64, 0),
+        about(Kind::Reply, 0, 64),
         Record {
             slot: 3,
             word: 8,
@@ -96,40 +84,46 @@ fn broken() -> [Record; 12] {
         },
         Record {
             result: 1,
-            ..of(Kind::Find)
+            ..about(Kind::Find, 0, 0)
         },
         Record {
             verdict: 1,
-            ..of(Kind::Drop)
+            ..about(Kind::Drop, 0, 0)
         },
         Record {
             verdict: 2,
-            ..of(Kind::Commit)
+            ..about(Kind::Commit, 0, 0)
         },
         Record {
             last: 1,
-            ..of_view(Kind::ViewChange, 1)
+            ..about(Kind::ViewChange, 1, 0)
         },
-        of(Kind::ViewStart),
-        Record { last: 1, ..entry },
-        Record { slot: 65, ..entry },
+        about(Kind::ViewStart, 0, 0),
+        Record {
+            last: 1,
+            ..about(Kind::Entry, 1, 0)
+        },
+        about(Kind::Entry, 1, 65),
     ]
 }
 
 #[test]
 fn each_broken_rule_is_refused(rt: HostRuntime) {
     for r in broken() {
-        assert_eq!(rt; r.pack(), Err(Ground::Layout.into()));
+        assert_eq!(rt; r.pack(), Err(layout(0)));
     }
 }
 
 #[test]
 fn tapes_are_read_by_position(rt: HostRuntime) -> Result<(), Fail> {
-    let short = Refusal::from(Ground::BufferLength);
+    let short = Refusal {
+        ground: Ground::BufferLength,
+        place: 0,
+    };
     assert!(rt; matches!(Reader::new(&[]), Err(e) if e == short));
     assert!(rt; matches!(Reader::new(&[0x12; 39]), Err(e) if e == short));
     for (place, part) in (0..3).zip(Reader::new(&[0; 60])?) {
-        assert_eq!(rt; part.record(), Err(Ground::Layout.at(place)));
+        assert_eq!(rt; part.record(), Err(layout(place)));
     }
     assert_eq!(rt; Reader::new(&[0; 60])?.count(), 3);
     Ok(())

@@ -1,12 +1,10 @@
 //! A gauge with two rating curves that meet at two metres.
-ghost use Rattle.std.specs.Prelude.{◌≡◌, [], IfOk, Some, OnOk};
+ghost use Rattle.std.specs.Prelude.{◌≡◌, [], IfOk, OnOk};
 ghost use Rattle.rating.specs.Curves.{deciding, loaded};
-ghost use Rattle.rating.specs.Decoded.{decoded};
 ghost use Rattle.rating.specs.Rating.{curves_of, flow_by};
 
-use anyhow::anyhow;
 use rating::{Curve, Operation, Rating};
-use service::{OUT_OF_RANGE, Service};
+use service::{Service, Unanswered, outcome};
 
 const LOW: Curve = Curve {
     number: 0,
@@ -24,39 +22,15 @@ const HIGH: Curve = Curve {
     slope: 5,
 };
 
-fn describe(rt: &HostRuntime, curve: &Curve) -> anyhow::Result<()> {
-    let Curve {
-        number,
-        low,
-        high,
-        offset,
-        slope,
-    } = *curve;
-    println!(rt;
-        "  curve {number}: {low} to {high} mm, {offset} l/s at its low end, {slope} l/s more for each mm"
-    )?;
-    Ok(())
-}
-
-fn encode(operation: Operation) -> anyhow::Result<u64>
-    ensures { IfOk result (λ n. decoded n ≡ Some operation) }
-{
-    match operation.encode() {
-        Some(bits) => Ok(bits),
-        None => Err(anyhow!("a field of a rating operation is too wide")),
-    }
-}
-
 // The flow at a stage, which is printed.
 fn read(rt: &HostRuntime, rating: &mut Rating, stage: u16) -> anyhow::Result<u64>
     ensures flow { IfOk result (λ flow. flow ≡ flow_by stage (deciding stage (curves_of rating.old))) }
     ensures curves { OnOk result (curves_of rating.new ≡ curves_of rating.old) }
 {
-    let flow = rating.apply(encode(Operation::Read(stage))?);
-    if flow == OUT_OF_RANGE {
-        println!(rt; "  at {stage} mm: no curve holds this stage")?;
-    } else {
-        println!(rt; "  at {stage} mm: {flow} l/s")?;
+    let flow = rating.apply(u64::try_from(Operation::Read(stage))?);
+    match outcome(flow) {
+        Err(Unanswered::OutOfRange) => println!(rt; "  at {stage} mm: no curve holds this stage")?,
+        _ => println!(rt; "  at {stage} mm: {flow} l/s")?,
     }
     Ok(flow)
 }
@@ -68,8 +42,8 @@ fn read_after(rt: &HostRuntime, first: Curve, second: Curve) -> anyhow::Result<u
     let (a, b) = (first.number, second.number);
     println!(rt; "Curve {a} loaded, then curve {b}")?;
     let mut rating = Rating::new();
-    let _ = rating.apply(encode(Operation::Load(first))?);
-    let _ = rating.apply(encode(Operation::Load(second))?);
+    let _ = rating.apply(u64::try_from(Operation::Load(first))?);
+    let _ = rating.apply(u64::try_from(Operation::Load(second))?);
     read(rt, &mut rating, 1999)?;
     let flow = read(rt, &mut rating, 2000)?;
     read(rt, &mut rating, 2001)?;
@@ -82,8 +56,8 @@ pub fn read_two_metres(rt: &HostRuntime) -> anyhow::Result<u64>
     ensures { IfOk result (λ flow. flow ≡ 6200) }
 {
     println!(rt; "Gauge: two rating curves hold at a stage of 2000 mm")?;
-    describe(rt, &LOW)?;
-    describe(rt, &HIGH)?;
+    println!(rt; "  {LOW}")?;
+    println!(rt; "  {HIGH}")?;
     read_after(rt, HIGH, LOW)?;
     read_after(rt, LOW, HIGH)
 }

@@ -1,24 +1,22 @@
 //! Statements of four replicas in a register with three places, and a quorum among them.
-use quorum::{count, witnesses};
+use quorum::{Membership, count};
 use record::{Kind, Record};
 use register::{Register, insert};
 use registers::{SpareSheet, Table};
 
-const REPLICAS: u8 = 4;
-
-const QUORUM: u8 = 3;
+const MEMBERS: Membership = Membership {
+    replicas: 4,
+    quorum: 3,
+};
 
 /// The statement that a replica answered `answer` for slot 1 of view 0.
 pub fn answer_of(signer: u8, answer: u64) -> Record {
     Record {
-        kind: Kind::Reply as u8,
+        kind: Kind::Reply.into(),
         signer,
-        view: 0,
-        last: 0,
         slot: 1,
-        verdict: 0,
-        word: 0,
         result: answer,
+        ..Record::default()
     }
 }
 
@@ -36,16 +34,18 @@ fn enter<R: Register>(
     Ok(())
 }
 
+// No Display: one line of this program's output. How many said the statement, and a quorum of them.
 fn print_quorum<R: Register>(
     rt: &HostRuntime,
     register: &R,
     statement: &Record,
 ) -> anyhow::Result<()> {
-    let said = count(register, statement, REPLICAS);
-    print!(rt; "  {said} of {REPLICAS} replicas said it")?;
-    match witnesses(register, statement, REPLICAS, QUORUM) {
+    let replicas = MEMBERS.replicas;
+    let said = count(register, statement, replicas);
+    print!(rt; "  {said} of {replicas} replicas said it")?;
+    match MEMBERS.witnesses(register, statement) {
         Some(found) => {
-            let (a, b, c) = (found[0], found[1], found[2]);
+            let [a, b, c, ..] = found;
             println!(rt; "; witnesses of the quorum: {a}, {b}, {c}")?
         }
         None => println!(rt; ", no quorum")?,

@@ -2,6 +2,7 @@
 use crate::statements::answer_of;
 use record::{Kind, Part, Reader, Record};
 
+// No Display: one line of this program's output.
 fn print_bytes(rt: &HostRuntime, bytes: &[u8; 20]) -> anyhow::Result<()> {
     print!(rt; "  packed:")?;
     for byte in bytes {
@@ -11,6 +12,7 @@ fn print_bytes(rt: &HostRuntime, bytes: &[u8; 20]) -> anyhow::Result<()> {
     Ok(())
 }
 
+// No Display: one line of this program's output, with some fields of a statement.
 fn print_part(rt: &HostRuntime, part: Part) -> anyhow::Result<()> {
     let position = part.position;
     match part.record() {
@@ -38,10 +40,8 @@ fn print_part(rt: &HostRuntime, part: Part) -> anyhow::Result<()> {
 // The bytes, and once more with the lowest bit of the fourth turned.
 fn tape_of(bytes: &[u8; 20]) -> [u8; 40] {
     let mut tape = [0; 40];
-    for (i, byte) in bytes.iter().enumerate() {
-        tape[i] = *byte;
-        tape[20 + i] = *byte;
-    }
+    tape[..20].copy_from_slice(bytes);
+    tape[20..].copy_from_slice(bytes);
     tape[23] ^= 1;
     tape
 }
