@@ -18,6 +18,7 @@ fn statement(kind: Kind, signer: u8, slot: u8) -> Record {
     }
 }
 
+// Written out, so that the tests do not lean on the conversions.
 fn at_0(ground: Ground) -> Refusal {
     Refusal { ground, place: 0 }
 }

@@ -15,6 +15,7 @@ fn about(kind: Kind, view: u8, slot: u8) -> Record {
     }
 }
 
+// Written out, so that the tests do not lean on the conversions.
 fn layout(place: u64) -> Refusal {
     Refusal {
         ground: Ground::Layout,
@@ -72,15 +73,13 @@ fn broken() -> [Record; 12] {
         Record { kind: 0, ..reply },
         Record {
             kind: 10,
-            view: 1,
-            ..reply
+            ..about(Kind::Reply, 1, 0)
         },
         about(Kind::Reply, 64, 0),
         about(Kind::Reply, 0, 64),
         Record {
-            slot: 3,
             word: 8,
-            ..reply
+            ..about(Kind::Reply, 0, 3)
         },
         Record {
             result: 1,

@@ -10,7 +10,7 @@ use refusal::{Ground, Refusal};
 use register::Register;
 use replica::{Verdict, bit};
 
-// Register and members stay two arguments: a type of both would only be for the few functions here.
+// Register and members stay two arguments: a register is lent, members are copied.
 
 // PREPARE of no-op for a slot in a view, by replica 0.
 fn prepare_no_op(view: u8, slot: u8) -> Record

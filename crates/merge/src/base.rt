@@ -8,6 +8,8 @@ use record::{Kind, Record};
 use refusal::{Ground, Refusal};
 use register::Register;
 
+// Register and members stay two arguments: a register is lent, members are copied.
+
 // ENTRY for a view with a line, by replica 0.
 fn entry(view: u8, line: (u8, u64)) -> Record
     ensures { result ≡ entry_by 0 view line.0 line.1 }

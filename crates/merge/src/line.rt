@@ -1,5 +1,6 @@
 //! The line that picks merge to.
-// A rule of the project: merging answers a pair, length and word.
+// A rule of the project: merging answers a pair, length and word. Picks and base stay two arguments,
+// as the calls have them.
 ghost use Rattle.std.specs.Prelude.{◌≡◌, max, bit_or};
 ghost use Rattle.merge.specs.Merges.{merge, MergesAlike};
 

@@ -65,6 +65,7 @@ pub struct Membership {
 impl Membership {
     /// A quorum of different replicas that said the statement, in the first `quorum` bytes; the
     /// others are 0. Nothing if fewer said it.
+    // An array: 16 bytes are what is promised, and the membership has the number of witnesses.
     #[tactic(auto, using(crate::proofs::Finding::found_few, crate::proofs::Finding::found_enough))]
     pub fn witnesses<R: Register>(self, register: &R, statement: &Record) -> Option<[u8; SIGNERS]>
         ensures { Finds self.replicas self.quorum (said (R.held register.now) statement.now) result }

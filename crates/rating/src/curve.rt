@@ -14,6 +14,7 @@ pub struct Curve {
     pub slope: u16,
 }
 
+// By hand: a derived text has no contract.
 impl fmt::Display for Curve {
     ghost output = { λ c. Some (curve_text c) };
 

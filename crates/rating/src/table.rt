@@ -7,5 +7,6 @@ use arrayvec::ArrayVec;
 #[derive(Debug, Drop)]
 pub struct Rating {
     pub(crate) curves: ArrayVec<Curve, 8>,
+    // A ghost field, not a model: callers can read it of any `Rating`.
     ghost apart: { numbered 8 curves.items },
 }

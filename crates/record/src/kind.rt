@@ -61,7 +61,7 @@ impl From<Kind> for u8 {
     }
 }
 
-// Printing by hand, as a derived text has no contract.
+// By hand: a derived text has no contract.
 impl fmt::Display for Kind {
     ghost output = { λ k. Some (kind_text k) };
 

@@ -13,6 +13,7 @@ pub use tape::{Part, Reader, part_at};
 pub const SIZE: usize = 20;
 
 /// A record: the fields of a statement as plain numbers, which may break the layout.
+// Numbers, also for kind and verdict: any number in a field has to meet a refusal.
 #[derive(Clone, Copy, Debug, Default, PartialEq, Eq)]
 pub struct Record {
     /// The number of its kind.

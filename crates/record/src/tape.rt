@@ -44,7 +44,7 @@ pub fn part_at(tape: &[u8], position: usize) -> Option<&[u8; SIZE]>
 #[derive(Drop)]
 pub struct Reader<'a> {
     tape: &'a [u8],
-    // A cursor, counted by hand: the contracts say by it what is handed out.
+    // A cursor: chunks with their index would be two iterators in one to say the same.
     position: usize,
 }
 

@@ -86,6 +86,7 @@ pub struct Refusal {
     pub place: u64,
 }
 
+// By hand: a derived text has no contract.
 impl fmt::Display for Refusal {
     ghost output = { λ r. Some (text r) };
 

@@ -5,6 +5,7 @@ ghost use Rattle.replica.specs.Replicas.{delivered, committed, settled};
 use crate::verdicts::{sealed_with, with_verdict};
 use crate::{Replica, SLOTS, Verdict};
 
+// Slot and verdict stay two arguments: the calls have them so.
 impl Replica {
     /// Appends an operation to the line. A full line stays as it is.
     pub fn deliver(&mut self)

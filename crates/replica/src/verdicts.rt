@@ -1,5 +1,5 @@
 //! Verdicts: their numbers, and what they make of a word.
-// Slot and verdict stay two arguments: statements and calls have them as two numbers.
+// Slot and verdict stay two arguments: the calls have them so.
 ghost use Rattle.std.specs.Prelude.{◌≡◌};
 ghost use Rattle.replica.specs.Verdicts.{verdict_number, other_verdict, with_verdict, sealed_with};
 

@@ -61,7 +61,7 @@ impl Replica {
     }
 
     /// Enters a view with a line, and with nothing sealed there.
-    // Length and word, as the fields have them.
+    // Length and word stay two arguments: a replica has them as two fields.
     pub fn enter(&mut self, view: u8, length: u8, word: u64)
         ensures { self.new ≡ entered view length word }
     {

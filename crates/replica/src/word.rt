@@ -1,4 +1,5 @@
 //! Words: one bit for each slot.
+// Any number is allowed for a slot, so each function asks whether there is such a slot.
 ghost use Rattle.std.specs.Prelude.{◌≡◌};
 ghost use Rattle.replica.specs.Words.{bit, with_bit, without_bit, one_past};
 

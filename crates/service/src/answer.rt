@@ -32,7 +32,7 @@ pub struct UnknownOperation;
 #[derive(Clone, Copy, Debug, PartialEq, Eq, Hash)]
 pub struct Unencodable;
 
-// Printing by hand, as a derived text has no contract.
+// By hand: a derived text has no contract.
 
 impl fmt::Display for Unanswered {
     ghost output = { λ why. Some (unanswered_text why) };

@@ -15,6 +15,7 @@ use register::Register;
 /// A register over bytes that the caller lends: records are packed into it end to end.
 #[derive(Drop)]
 pub struct Tape<'a> {
+    // A type of its own beside a table: one of both would have to carry how a place is read and written.
     // What the caller lends is written in place, so its length stands beside it.
     bytes: &'a mut [u8],
     // How many records are packed into it.

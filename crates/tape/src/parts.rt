@@ -16,7 +16,7 @@ pub(crate) fn has(parts: &[[u8; SIZE]], bytes: &[u8; SIZE]) -> bool
     parts.iter().any(|part| part == bytes)
 }
 
-// Whether none of the parts holds a statement.
+// Whether none of the parts holds a statement: as of a table's records, but each is unpacked.
 pub(crate) fn holds_nothing(parts: &[[u8; SIZE]]) -> bool
     ensures { Emptiness (stored has_bytes parts.now) result }
 {
