@@ -6,7 +6,7 @@ use Rattle.std.proofs.lemmas.List.{get_or-take, get_or-drop, length-take-le, len
 use Rattle.std.proofs.Math.ListN.{get_or-eq_default}
 use Rattle.std.proofs.lemmas.Nat.{div-mul-add, be_bytes_4, be_bytes_8, from_be_bytes-to_be_bytes_4, from_be_bytes-to_be_bytes_8}
 use Rattle.record.specs.Bytes.{be}
-use Rattle.std.specs.Int.{w32, w64, to_be_bytes, from_be_bytes}
+use Rattle.std.specs.Int.{Width, w32, w64, byte_at, bytes_high_first, to_be_bytes, from_be_bytes}
 
 positive : (k : ℕ) → 0 < 256 ^ k
 positive k = one-le-pow k 256 (omega arith)
@@ -38,14 +38,27 @@ be_append (suc j) k m n h =
     let rest : be (j + k) x ≡ be j m ++ be k n = be_append j k m n h in
     ap (λ (i : ℕ). be i x) (suc-add j k) ∙ ap (λ (p : ℕ). p % 256 ∷ be (j + k) x) shift ∙ ap (λ (l : List ℕ). m / 256 ^ j % 256 ∷ l) rest
 
--- the bytes of a number as the code writes them, and the number that it reads from them
-pub be4_is : (n : ℕ) → be 4 n ≡ to_be_bytes w32 n
-unfolding be
-be4_is n = let last : n / 1 % 256 ≡ n % 256 = omega arith in cc
+-- the bytes of a number as the library writes them
+byte_is : (k n : ℕ) → n / 256 ^ k % 256 ≡ byte_at k n
+byte_is zero n = omega arith
+byte_is (suc k) n = refl
 
-pub be8_is : (n : ℕ) → be 8 n ≡ to_be_bytes w64 n
+be_is : (k n : ℕ) → be k n ≡ bytes_high_first k n
 unfolding be
-be8_is n = let last : n / 1 % 256 ≡ n % 256 = omega arith in cc
+be_is zero n = refl
+be_is (suc k) n = let first = byte_is k n in let rest = be_is k n in cc
+
+-- what the library knows of the bytes of numbers of the width w, which are k bytes, below the limit
+pub record BytesOf (w : Width) (k limit : ℕ) : Type 0 where
+  pub writes : (n : ℕ) → to_be_bytes w n ≡ bytes_high_first k n
+  pub back : (n : ℕ) → n < limit → from_be_bytes w (to_be_bytes w n) ≡ n
+  pub forth : (bs : List ℕ) (n : ℕ) → length bs ≡ k → ((i : ℕ) → get_or bs i 0 < 256) → n ≡ from_be_bytes w bs → to_be_bytes w n ≡ bs
+
+pub four_bytes : BytesOf w32 4 (2 ^ 32)
+four_bytes = record { writes = λ n. refl; back = from_be_bytes-to_be_bytes_4; forth = be_bytes_4 }
+
+pub eight_bytes : BytesOf w64 8 (2 ^ 64)
+eight_bytes = record { writes = λ n. refl; back = from_be_bytes-to_be_bytes_8; forth = be_bytes_8 }
 
 -- n bytes of a list, from i on, are n and are bytes
 module _ (b : List ℕ) (bytes : (j : ℕ) → get_or b j 0 < 256) (n i : ℕ) (within : i + n ≤ length b) where
@@ -58,19 +71,16 @@ module _ (b : List ℕ) (bytes : (j : ℕ) → get_or b j 0 < 256) (n i : ℕ) (
     | inr high ↦ let past : length (take n (drop i b)) ≤ j = omega (arith, part_length) in rw (get_or-eq_default (take n (drop i b)) 0 past) (lit< tt)
   ]
 
-pub be4_read : (b bs : List ℕ) (i n : ℕ) → ((j : ℕ) → get_or b j 0 < 256) → i + 4 ≤ length b → bs ≡ take 4 (drop i b) → n ≡ from_be_bytes w32 bs → be 4 n ≡ take 4 (drop i b)
-be4_read b bs i n bytes h is e =
-    be4_is n ∙ be_bytes_4 (take 4 (drop i b)) n (part_length b bytes 4 i h) (part_bytes b bytes 4 i h) (e ∙ ap (from_be_bytes w32) is)
+module _ {w : Width} {k limit : ℕ} (known : BytesOf w k limit) where
+  pub be_writes : (n : ℕ) → be k n ≡ to_be_bytes w n
+  be_writes n = be_is k n ∙ sym (known.writes n)
 
-pub be8_read : (b bs : List ℕ) (i n : ℕ) → ((j : ℕ) → get_or b j 0 < 256) → i + 8 ≤ length b → bs ≡ take 8 (drop i b) → n ≡ from_be_bytes w64 bs → be 8 n ≡ take 8 (drop i b)
-be8_read b bs i n bytes h is e =
-    be8_is n ∙ be_bytes_8 (take 8 (drop i b)) n (part_length b bytes 8 i h) (part_bytes b bytes 8 i h) (e ∙ ap (from_be_bytes w64) is)
+  -- numbers with the same bytes are the same
+  pub be_one : (m n : ℕ) → m < limit → n < limit → be k m ≡ be k n → m ≡ n
+  be_one m n hm hn e =
+      sym (known.back m hm) ∙ ap (from_be_bytes w) (sym (be_writes m) ∙ e ∙ be_writes n) ∙ known.back n hn
 
--- numbers with the same bytes are the same
-pub be4_one : (m n : ℕ) → m < 2 ^ 32 → n < 2 ^ 32 → be 4 m ≡ be 4 n → m ≡ n
-be4_one m n hm hn e =
-    sym (from_be_bytes-to_be_bytes_4 m hm) ∙ ap (from_be_bytes w32) (sym (be4_is m) ∙ e ∙ be4_is n) ∙ from_be_bytes-to_be_bytes_4 n hn
-
-pub be8_one : (m n : ℕ) → m < 2 ^ 64 → n < 2 ^ 64 → be 8 m ≡ be 8 n → m ≡ n
-be8_one m n hm hn e =
-    sym (from_be_bytes-to_be_bytes_8 m hm) ∙ ap (from_be_bytes w64) (sym (be8_is m) ∙ e ∙ be8_is n) ∙ from_be_bytes-to_be_bytes_8 n hn
+  -- n is read from k bytes of a list, from i on
+  pub be_read : (b bs : List ℕ) (i n : ℕ) → ((j : ℕ) → get_or b j 0 < 256) → i + k ≤ length b → bs ≡ take k (drop i b) → n ≡ from_be_bytes w bs → be k n ≡ take k (drop i b)
+  be_read b bs i n bytes h is e =
+      be_writes n ∙ known.forth (take k (drop i b)) n (part_length b bytes k i h) (part_bytes b bytes k i h) (e ∙ ap (from_be_bytes w) is)

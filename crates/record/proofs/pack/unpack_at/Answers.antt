@@ -2,7 +2,7 @@ use Rattle.std.proofs.Common.{arith, sym, ap, ◌∙◌}
 use Rattle.std.proofs.lemmas.Bool.{both_ways, eqb-true, eqb-false}
 use Rattle.record.specs.Layout.{keeps_layout}
 use Rattle.record.specs.Packed.{packed}
-use Rattle.record.proofs.Bytes.{be4_read, be8_read}
+use Rattle.record.proofs.Bytes.{be_read, four_bytes, eight_bytes}
 use Rattle.record.proofs.Packs.{Splits, split_record, split_packed, split_even}
 use Rattle.record.proofs.pack.unpack_at.Goals as goal
 use Rattle.record.proofs.pack.unpack_at.Goals.{else-zero_filled-via-then-zero_filled+else-keeps_layout, else-zero_filled-via-else-zero_filled, After-with_head-record}
@@ -12,9 +12,9 @@ read : (c : After-with_head-record) → Splits c.args.bytes.now c.from_be_bytes-
 read c =
     let within = c.told-bytes in
     record {
-      head = be4_read _ _ 0 _ c.fits-bytes (omega arith) c.part.ensures c.from_be_bytes-head.ensures;
-      word = be8_read _ _ 4 _ c.fits-bytes (omega arith) c.part-2.ensures c.from_be_bytes-word.ensures;
-      result = be8_read _ _ 12 _ c.fits-bytes (omega arith) c.part-3.ensures c.from_be_bytes-res.ensures;
+      head = be_read four_bytes _ _ 0 _ c.fits-bytes (omega arith) c.part.ensures c.from_be_bytes-head.ensures;
+      word = be_read eight_bytes _ _ 4 _ c.fits-bytes (omega arith) c.part-2.ensures c.from_be_bytes-word.ensures;
+      result = be_read eight_bytes _ _ 12 _ c.fits-bytes (omega arith) c.part-3.ensures c.from_be_bytes-res.ensures;
       head_fits = c.from_be_bytes-head.type_inv;
       word_fits = c.from_be_bytes-word.type_inv;
       result_fits = c.from_be_bytes-res.type_inv;
