@@ -1,16 +1,17 @@
--- A list cut into chunks of n elements.
-use Rattle.std.proofs.Common.{◌≡◌, ℕ, zero, suc, ◌*◌, ◌<◌, List, length, get_or, take, drop, refl, ap, ◌∙◌, arith, mul-zero}
+-- The chunks of 20 bytes that a list of bytes is cut into are its places.
+use Rattle.std.proofs.Common.{◌≡◌, ℕ, zero, suc, ◌+◌, ◌*◌, List, ◌∷◌, map, drop, refl, ap, ◌∙◌, arith}
 use Rattle.std.proofs.lemmas.List.{drop-drop}
+use Rattle.std.specs.List.{range_with_len}
 use Rattle.std.specs.Simd.{first_chunks}
+use Rattle.record.specs.Tapes.{place}
 
-pub length_chunks : (n k : ℕ) (b : List ℕ) → length (first_chunks n k b) ≡ k
-length_chunks n zero b = refl
-length_chunks n (suc k) b = ap suc (length_chunks n k (drop n b))
+module _ (b : List ℕ) where
+  chunks_from : (n i : ℕ) → first_chunks 20 n (drop (20 * i) b) ≡ map (λ k. place k b) (range_with_len i n)
+  chunks_from zero i = refl
+  chunks_from (suc n) i =
+      let next : 20 * i + 20 ≡ 20 * (i + 1) = omega arith in
+      ap (λ (ps : List (List ℕ)). place i b ∷ ps)
+      (ap (first_chunks 20 n) (drop-drop 20 (20 * i) b ∙ ap (λ (k : ℕ). drop k b) next) ∙ chunks_from n (i + 1))
 
-pub chunk_at : (n k i : ℕ) (b d : List ℕ) → i < k → get_or (first_chunks n k b) i d ≡ take n (drop (n * i) b)
-chunk_at n zero i b d h = absurd (omega arith)
-chunk_at n (suc k) zero b d h = rw (mul-zero n) refl
-chunk_at n (suc k) (suc i) b d h =
-    chunk_at n k i (drop n b) d (omega arith)
-    ∙ ap (take n) (drop-drop (n * i) n b)
-    ∙ ap (λ (j : ℕ). take n (drop j b)) (omega arith)
+  pub chunks_are : (n : ℕ) → first_chunks 20 n b ≡ map (λ k. place k b) (range_with_len 0 n)
+  chunks_are n = chunks_from n 0

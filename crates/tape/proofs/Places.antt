@@ -1,10 +1,10 @@
 -- What the places of a tape store, and a write to one of them.
-use Rattle.std.proofs.Common.{◌≡◌, ℕ, zero, suc, ◌+◌, ◌-◌, ◌*◌, ◌<◌, ◌≤◌, min, true, false, MatchBool, List, [], ◌∷◌, ◌++◌, length, take, drop, map, is_ok, Ok, Err, Result, sym, refl, ap, ◌∙◌, add-one, arith, length-drop}
+use Rattle.std.proofs.Common.{◌≡◌, ℕ, zero, suc, ◌+◌, ◌-◌, ◌*◌, ◌<◌, ◌≤◌, min, true, false, MatchBool, List, [], ◌∷◌, ◌++◌, length, take, drop, is_ok, Ok, Err, Result, sym, refl, ap, ◌∙◌, add-one, arith, length-drop}
 use borrow.Rule.Slice.PartMut.{put_mid}
-use Rattle.std.specs.List.{range_with_len}
 use Rattle.std.specs.Simd.{first_chunks}
 use Rattle.std.proofs.lemmas.Slice.Eq.{bytes_eq-Decides}
 use Rattle.std.proofs.lemmas.List.{take_at, length-take-le, drop-append-le, take-append-le, take-take, drop-take, length-append, drop-drop}
+use Rattle.std.proofs.lemmas.List.FromFn.{take-map-range_with_len}
 use Rattle.std.proofs.lemmas.Bool.{cond-true, false_from_ne_true}
 use Rattle.std.proofs.lemmas.Bool.Decides.{same_from_decides, Decides-like}
 use Rattle.refusal.specs.declared.Refusal.{Refusal}
@@ -13,6 +13,7 @@ use Rattle.record.specs.Packed.{packed, Unpacks}
 use Rattle.record.specs.Same.{same}
 use Rattle.record.specs.Tapes.{places, place}
 use Rattle.record.specs.declared.Record.{Record}
+use Rattle.record.proofs.Chunks.{chunks_are}
 use Rattle.record.proofs.Packs.{length_packed, packs_alone}
 use Rattle.record.proofs.Same.{same_decides}
 use Rattle.register.specs.Sets.{Entered}
@@ -27,30 +28,16 @@ unpacked y (Ok r) u = (r, u.layout, (bytes_eq-Decides y (packed r)).1 (sym u.byt
 unpacked y (Err e) u =
     λ x kept. false_from_ne_true _ (λ h. u.1 x (record { layout = kept; bytes = sym ((bytes_eq-Decides y (packed x)).0 h) }))
 
--- the places as chunks of 20 bytes
-module _ (b : List ℕ) where
-  chunks_from : (n i : ℕ) → first_chunks 20 n (drop (20 * i) b) ≡ map (λ k. place k b) (range_with_len i n)
-  chunks_from zero i = refl
-  chunks_from (suc n) i =
-      let next : 20 * i + 20 ≡ 20 * (i + 1) = omega arith in
-      ap (λ (ps : List (List ℕ)). place i b ∷ ps)
-      (ap (first_chunks 20 n) (drop-drop 20 (20 * i) b ∙ ap (λ (k : ℕ). drop k b) next) ∙ chunks_from n (i + 1))
-
-  chunks : (n : ℕ) → first_chunks 20 n b ≡ parts n b
-  chunks n = chunks_from n 0
-
-take_chunks : (u n : ℕ) (b : List ℕ) → u ≤ n → take u (first_chunks 20 n b) ≡ first_chunks 20 u b
-take_chunks zero n b l = refl
-take_chunks (suc u) zero b l = absurd (omega arith)
-take_chunks (suc u) (suc n) b l = ap (λ (ps : List (List ℕ)). take 20 b ∷ ps) (take_chunks u n (drop 20 b) (omega arith))
+-- the used places as chunks of 20 bytes
+used_is : (u : ℕ) (b : List ℕ) → u ≤ places b → parts u b ≡ used_parts u b
+used_is u b fits = let used : u ≡ min u (places b) = omega arith in ap (λ (k : ℕ). parts k b) used
 
 used_are : (u : ℕ) (b : List ℕ) → u ≤ places b → first_chunks 20 u b ≡ used_parts u b
-used_are u b fits =
-    let used : u ≡ min u (places b) = omega arith in
-    chunks b u ∙ ap (λ (k : ℕ). parts k b) used
+used_are u b fits = chunks_are b u ∙ used_is u b fits
 
 pub used_chunks : (u : ℕ) (b : List ℕ) (ps : List (List ℕ)) → u ≤ places b → ps ≡ first_chunks 20 (places b) b → take u ps ≡ used_parts u b
-used_chunks u b ps fits are = ap (take u) are ∙ take_chunks u (places b) b fits ∙ used_are u b fits
+used_chunks u b ps fits are =
+    ap (take u) (are ∙ chunks_are b (places b)) ∙ take-map-range_with_len (λ k. place k b) 0 (places b) u fits ∙ used_is u b fits
 
 pub put_replaces : (n : ℕ) (b y c : List ℕ) → y ≡ c → put_mid (20 * n) (20 * n + 20 - 20 * n) b y ≡ replaced n b c
 put_replaces n b y c e =

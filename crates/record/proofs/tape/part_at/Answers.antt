@@ -1,19 +1,22 @@
-use Rattle.std.proofs.Common.{◌≡◌, ℕ, ◌<◌, ◌≤◌, List, length, Some, None, Option, get_or, ap, ◌∙◌, arith, Bor, MatchOption}
-use Rattle.std.specs.Simd.{first_chunks}
+use Rattle.std.proofs.Common.{◌≡◌, ℕ, ◌<◌, ◌≤◌, List, length, map, Some, None, Option, get_or, ap, ◌∙◌, arith, zero-add, Bor, MatchOption}
+use Rattle.std.specs.List.{range_with_len}
+use Rattle.std.proofs.lemmas.List.FromFn.{get_or-map-range_with_len, length-map-range_with_len}
 use Rattle.std.specs.Slice.{IsItemAt}
 use Rattle.record.specs.Tapes.{places, place}
-use Rattle.record.proofs.Chunks.{chunk_at, length_chunks}
+use Rattle.record.proofs.Chunks.{chunks_are}
 use Rattle.record.proofs.tape.part_at.Goals as goal
 
--- what `get` finds among the chunks of 20 bytes
-at_place : (b : List ℕ) (i : ℕ) (xs : List (List ℕ)) (o : Option (Bor (List ℕ))) → xs ≡ first_chunks 20 (places b) b → IsItemAt xs i o → MatchOption o (places b ≤ i) (λ y. (i < places b) × (y.now ≡ place i b))
+-- what `get` finds among the places
+at_place : (b : List ℕ) (i : ℕ) (xs : List (List ℕ)) (o : Option (Bor (List ℕ))) → xs ≡ map (λ k. place k b) (range_with_len 0 (places b)) → IsItemAt xs i o → MatchOption o (places b ≤ i) (λ y. (i < places b) × (y.now ≡ place i b))
 at_place b i xs None e p =
-    let n : length xs ≡ places b = ap length e ∙ length_chunks 20 (places b) b in
+    let n : length xs ≡ places b = ap length e ∙ length-map-range_with_len (λ k. place k b) 0 (places b) in
     omega (arith, p.3)
 at_place b i xs (Some y) e p =
-    let n : length xs ≡ places b = ap length e ∙ length_chunks 20 (places b) b in
+    let n : length xs ≡ places b = ap length e ∙ length-map-range_with_len (λ k. place k b) 0 (places b) in
     let below : i < places b = omega (arith, p.3.0) in
-    (below, p.1 ∙ ap (λ (l : List (List ℕ)). get_or l i y.now) e ∙ chunk_at 20 (places b) i b y.now below)
+    (below, p.1 ∙ ap (λ (l : List (List ℕ)). get_or l i y.now) e ∙ get_or-map-range_with_len (λ k. place k b) 0 (places b) i i y.now below (zero-add i))
 
 pub returns : goal.returns
-returns c = at_place c.args.tape.now c.args.position _ _ c.parts.ensures c.get.ensures.lookup
+returns c =
+    let b = c.args.tape.now in
+    at_place b c.args.position _ _ (c.parts.ensures ∙ chunks_are b (places b)) c.get.ensures.lookup
