@@ -2,5 +2,10 @@ pub mod Counting
 pub mod Books
 pub mod Invariant
 pub mod Certificates
+pub mod Saying
+pub mod Later
+pub mod Speaking
+pub mod Voting
+pub mod Moving
 pub mod Stepping
 pub mod Calls

@@ -1,0 +1,88 @@
+-- What is said after one more statement, and what stays true of all that was said.
+use Rattle.std.proofs.Common.{◌≡◌, ℕ, ◌≤◌, true, ◌⊎◌, sym, refl, ap, ◌∙◌, subst, inl, inr, arith}
+use Rattle.std.proofs.lemmas.Bool.{or_left, or_right, or_cases}
+use Rattle.record.specs.Layout.{Layout}
+use Rattle.record.specs.Statements.{prepare_by, entry_by}
+use Rattle.record.specs.declared.Record.{Record}
+use Rattle.record.proofs.Same.{same_decides}
+use Rattle.record.specs.Same.{same}
+use Rattle.register.specs.Sets.{Set, added}
+use Rattle.quorum.specs.Quorums.{said}
+use Rattle.protocol.specs.Setup.{Setup, Many, QuorumSaid}
+use Rattle.protocol.specs.Rules.{Said, Started}
+use Rattle.protocol.proofs.Counting.{many_mono}
+use Rattle.protocol.proofs.Invariant.{Bound, Rivals, Once}
+
+-- the fields of equal statements
+pub signer_of : {x y : Record} → x ≡ y → x.signer ≡ y.signer
+signer_of e = ap (λ (z : Record). z.signer) e
+
+pub view_of : {x y : Record} → x ≡ y → x.view ≡ y.view
+view_of e = ap (λ (z : Record). z.view) e
+
+pub slot_of : {x y : Record} → x ≡ y → x.slot ≡ y.slot
+slot_of e = ap (λ (z : Record). z.slot) e
+
+pub added_cases : (h : Set) (x y : Record) → Said (added h x) y → (x ≡ y) ⊎ Said h y
+added_cases h x y e = elim (or_cases (h y) (same x y) e) [ inl p ↦ inr p | inr p ↦ inl ((same_decides x y).0 p) ]
+
+-- a statement of another kind is none that was added
+pub added_other : (h : Set) (x y : Record) → (x.kind ≡ y.kind → ⊥) → Said (added h x) y → Said h y
+added_other h x y n e = elim (added_cases h x y e) [ inl t ↦ absurd (n (ap (λ (z : Record). z.kind) t)) | inr t ↦ t ]
+
+-- a later set has all that the earlier one has
+abbrev pub Grows : Set → Set → Type 0
+Grows h h' = (y : Record) → Said h y → Said h' y
+
+pub added_grows : (h : Set) (x : Record) → Grows h (added h x)
+added_grows h x y e = or_left (h y) (same x y) e
+
+pub added_has : (h : Set) (x : Record) → Said (added h x) x
+added_has h x = or_right (h x) (same x x) ((same_decides x x).1 refl)
+
+pub quorum_grows : (u : Setup) (h h' : Set) → Grows h h' → (x : Record) → QuorumSaid u h x → QuorumSaid u h' x
+quorum_grows u h h' g x q = many_mono u (said h x) (said h' x) (λ i. g _) q
+
+pub started_grows : (u : Setup) (h h' : Set) → Grows h h' → (v : ℕ) (b : ℕ × ℕ) → Started u h v b → Started u h' v b
+started_grows u h h' g v b (inl e) = inl e
+started_grows u h h' g v b (inr e) = inr (e.0, quorum_grows u h h' g (entry_by 0 v b.0 b.1) e.1)
+
+-- a PREPARE that keeps the layout is made of its signer, view, slot and verdict
+pub as_prepare : (y : Record) → Layout y → y.kind ≡ 5 → y ≡ prepare_by y.signer y.view y.slot y.verdict
+as_prepare y l e =
+    let last : y.last ≡ 0 = l.no_last (λ k. omega arith) in
+    let word : y.word ≡ 0 = l.no_word (omega arith) (omega arith) in
+    let result : y.result ≡ 0 = l.no_result (λ k. omega arith) in
+    λ i. record {
+      kind = e i;
+      signer = y.signer;
+      view = y.view;
+      last = last i;
+      slot = y.slot;
+      verdict = y.verdict;
+      word = word i;
+      result = result i;
+    }
+
+rivals_sym : (x y : Record) → Rivals x y → Rivals y x
+rivals_sym x y r =
+    record {
+      bound = subst Bound r.kinds r.bound;
+      kinds = sym r.kinds;
+      signers = sym r.signers;
+      views = sym r.views;
+      slots = λ e. sym (r.slots (r.kinds ∙ e));
+    }
+
+-- one content only, also after one more statement that has no rival
+pub once_more : (h : Set) (i : ℕ) (x : Record) → ((y : Record) → Said h y → Rivals x y → x ≡ y) → Once h i → Once (added h x) i
+once_more h i x new old y z s e f r = elim (added_cases h x y e) [
+  | inl p ↦ elim (added_cases h x z f) [
+    | inl q ↦ sym p ∙ q
+    | inr q ↦ sym p ∙ new z q (subst (λ (w : Record). Rivals w z) (sym p) r)
+  ]
+  | inr p ↦ elim (added_cases h x z f) [
+    | inl q ↦ sym (new y p (subst (λ (w : Record). Rivals w y) (sym q) (rivals_sym y z r))) ∙ q
+    | inr q ↦ old y z s p q r
+  ]
+]

@@ -1,0 +1,174 @@
+-- Replies and drops, and statements of which nothing more is asked, keep what holds of the replica that says them.
+use Rattle.std.proofs.Common.{◌≡◌, ℕ, ◌+◌, ◌%◌, ◌^◌, ◌<◌, ◌≤◌, true, false, ◌⊎◌, sym, refl, ap, ◌∙◌, subst, inl, inr, arith}
+use Rattle.std.proofs.lemmas.Bool.{both_ways, cases_eq}
+use native.Mathlib.Nat.{lt_of_lt_of_le}
+use lib.Pow.{pow_mono}
+use Rattle.record.specs.Statements.{reply_by, drop_by, commit_by}
+use Rattle.record.specs.declared.Record.{Record}
+use Rattle.register.specs.Sets.{Set, added}
+use Rattle.replica.specs.Words.{bit}
+use Rattle.replica.specs.Replicas.{longer, delivered}
+use Rattle.replica.specs.declared.Replica.{Replica}
+use Rattle.replica.proofs.Words.{bit_mod}
+use Rattle.replica.proofs.Lines.{longer_is}
+use Rattle.protocol.specs.Setup.{Setup, QuorumSaid}
+use Rattle.protocol.specs.Service.{Service, Book, answer_at}
+use Rattle.protocol.specs.Rules.{Said, Works, Upto}
+use Rattle.protocol.proofs.Books.{grown_refl, answer_alike}
+use Rattle.protocol.proofs.Saying.{view_of, slot_of, added_cases, added_other, Grows, added_grows, quorum_grows, started_grows}
+use Rattle.protocol.proofs.Invariant.{Line, Reply, Fact, Past, Rivals, Good}
+use Rattle.protocol.proofs.Later.{Turn, stays, based_later, line_kept, speak_good}
+
+-- a kind of statement of which nothing more is asked than that it is not of a later view
+pub record Plain (k : ℕ) : Type 0 where
+  pub reply : k ≡ 1 → ⊥
+  pub prepare : k ≡ 5 → ⊥
+  pub commit : k ≡ 6 → ⊥
+  pub change : k ≡ 7 → ⊥
+  pub entry : k ≡ 9 → ⊥
+
+plain_fact :
+    (u : Setup) (V : Service) (h : Set) (B : Book) (i : ℕ) (r : Replica) (x : Record) → Plain x.kind
+    → (x.kind ≤ 6 → Past r.view x.view) → Fact u V h B i r x
+plain_fact u V h B i r x P p =
+    record {
+      past = p;
+      reply = λ k. absurd (P.reply k);
+      prepare = λ k. absurd (P.prepare k);
+      commit = λ k. absurd (P.commit k);
+      change = λ k. absurd (P.change k);
+      entry = λ k. absurd (P.entry k);
+    }
+
+module _ (u : Setup) (V : Service) (h : Set) (B : Book) (i : ℕ) (r : Replica) (G : Good u V h B i r) where
+  -- a plain statement, which is a DROP at the end of the line if it is one at all
+  pub plain_good :
+      (x : Record) → Plain x.kind → (x.kind ≡ 3 → (x.view ≡ r.view) × (x.slot ≡ r.length)) → (x.kind ≤ 6 → Past r.view x.view)
+      → Good u V (added h x) B i r
+  plain_good x P d b =
+      let T = stays h (added h x) i r (added_grows h x)
+      (λ v s l n p e. elim (added_cases h x (drop_by i v l) e) [
+        | inl t ↦ let k = d (ap (λ (z : Record). z.kind) t) in absurd (omega (arith, k, n, view_of t, slot_of t))
+        | inr t ↦ t
+      ])
+      (λ v s w a k. added_other h x (reply_by i v s w a) P.reply) (λ v l k. added_other h x (commit_by i v l 1) P.commit) in
+      speak_good u V h B i r r G x T G.tidy (line_kept u V h (added h x) B B (grown_refl B) i r r T refl refl refl refl G.line)
+      (plain_fact u V (added h x) B i r x P b)
+      (λ y e k. absurd (omega (arith, k.bound, P)))
+
+module _ (u : Setup) (V : Service) (h : Set) (B : Book) (i : ℕ) (r : Replica) (G : Good u V h B i r) (W : Works u i r) where
+  -- a REPLY of its view says nothing new of a view that it left
+  own_replies : (s w a : ℕ) (v s' w' a' : ℕ) → v < r.target → Said (added h (reply_by i r.view s w a)) (reply_by i v s' w' a') → Said h (reply_by i v s' w' a')
+  own_replies s w a v s' w' a' p e =
+      elim (added_cases h (reply_by i r.view s w a) (reply_by i v s' w' a') e) [
+        | inl y ↦ absurd (omega (arith, view_of y, W.at_work))
+        | inr y ↦ y
+      ]
+
+  -- nor does it say a DROP
+  own_drops : (s w a : ℕ) (v l : ℕ) → Said (added h (reply_by i r.view s w a)) (drop_by i v l) → Said h (drop_by i v l)
+  own_drops s w a v l = added_other h (reply_by i r.view s w a) (drop_by i v l) (λ k. omega arith)
+
+  -- i says one more REPLY of its view, at work: all but the line and the new REPLY
+  replied :
+      (s w a : ℕ) (r' : Replica) → r'.view ≡ r.view → r'.target ≡ r.target → r'.sealed ≡ r.sealed → r'.mark ≡ r.mark
+      → r.length ≤ r'.length
+      → (let x = reply_by i r.view s w a in
+      Line u (added h x) B i r'.view r'.base r'.length r'.word
+      → Reply u V (added h x) B i r'.view r'.length r.view s w a → Good u V (added h x) B i r')
+  replied s w a r' ev et es em el L N =
+      let x = reply_by i r.view s w a in
+      speak_good u V h B i r r' G x
+      (record {
+        grows = added_grows h x;
+        view = inr (sym ev, el, λ l e. subst (λ (y : ℕ). bit y l ≡ true) (sym es) e);
+        target = omega arith;
+        mark = λ t p f k n. em ∙ f (omega arith) (omega arith);
+        drops = λ v s' l n p. own_drops s w a v l;
+        replies = own_replies s w a;
+        commits = λ v l p. added_other h x (commit_by i v l 1) (λ k. omega arith);
+      })
+      (omega (arith, G.tidy, ap (λ (y : ℕ). y) es)) L
+      (record {
+        past = λ k. omega arith;
+        reply = λ k. N;
+        prepare = λ k. absurd (omega arith);
+        commit = λ k. absurd (omega arith);
+        change = λ k. absurd (omega arith);
+        entry = λ k. absurd (omega arith);
+      })
+      (λ y e k. absurd (omega (arith, k.bound)))
+
+  pub deliver_good :
+      r.length < 64 → Upto B r.length → h (drop_by i r.view r.length) ≡ false
+      → Good u V (added h (reply_by i r.view r.length r.word (answer_at V B r.word r.length))) B i (delivered r)
+  deliver_good room p d =
+      let x = reply_by i r.view r.length r.word (answer_at V B r.word r.length) in
+      let g : Grows h (added h x) = added_grows h x in
+      let L = G.line in
+      let more : longer r.length ≡ r.length + 1 = longer_is r.length room in
+      let wider : 2 ^ r.length ≤ 2 ^ longer r.length = pow_mono (omega arith) in
+      let old = own_drops r.length r.word (answer_at V B r.word r.length) r.view in
+      let kept : (l : ℕ) → Said h (drop_by i r.view l) → l ≤ r.length → (l ≡ r.length) ⊎ (bit r.word l ≡ false) → QuorumSaid u (added h x) (commit_by 0 r.view l 0) =
+      λ l e q f. elim (cases_eq l r.length) [
+        | inl t ↦ absurd (both_ways (h (drop_by i r.view r.length)) d (subst (λ (n : ℕ). h (drop_by i r.view n) ≡ true) t e))
+        | inr t ↦ elim f [
+          | inl y ↦ absurd (t y)
+          | inr y ↦ quorum_grows u h (added h x) g (commit_by 0 r.view l 0) (L.kept l e (omega arith) y)
+        ]
+      ] in
+      replied r.length r.word (answer_at V B r.word r.length) (delivered r) refl refl refl refl (omega arith)
+      (record {
+        order = omega (arith, L.order);
+        known = λ l q. p l (omega arith);
+        small = lt_of_lt_of_le L.small wider;
+        based = based_later u h (added h x) g B B (grown_refl B) L.based;
+        skipped = λ l q e. quorum_grows u h (added h x) g (commit_by 0 r.view l 1) (L.skipped l q e);
+        kept = λ l e q f. kept l (old l e) (omega arith) (inr f);
+      })
+      (record {
+        now = λ e. omega arith;
+        stamped = p;
+        right = refl;
+        base = r.base;
+        base_word = L.based.base_word;
+        started = started_grows u h (added h x) g r.view (r.base, L.based.base_word) L.based.started;
+        below = λ l q t. L.based.below l t;
+        above = λ l q t e. quorum_grows u h (added h x) g (commit_by 0 r.view l 1) (L.skipped l t e);
+        here = λ q. absurd (omega (arith, L.order));
+        dropped = λ l e q f. kept l (old l e) q f;
+      })
+
+  pub reply_good :
+      (s : ℕ) → Upto B s → s < r.length → bit r.word s ≡ false
+      → Good u V (added h (reply_by i r.view s (r.word % 2 ^ s) (answer_at V B r.word s))) B i r
+  reply_good s p q z =
+      let w = r.word % 2 ^ s in
+      let a = answer_at V B r.word s in
+      let x = reply_by i r.view s w a in
+      let g : Grows h (added h x) = added_grows h x in
+      let L = G.line in
+      let same : (l : ℕ) → l < s → bit w l ≡ bit r.word l = λ l k. bit_mod s l r.word k in
+      replied s w a r refl refl refl refl (omega arith)
+      (line_kept u V h (added h x) B B (grown_refl B) i r r
+      (stays h (added h x) i r g (λ v s' l n p. own_drops s w a v l) (own_replies s w a)
+      (λ v l p. added_other h x (commit_by i v l 1) (λ k. omega arith)))
+      refl refl refl refl L)
+      (record {
+        now = λ e. q;
+        stamped = p;
+        right = answer_alike V B B r.word w s (λ l k. refl) (λ l k. sym (same l k));
+        base = r.base;
+        base_word = L.based.base_word;
+        started = started_grows u h (added h x) g r.view (r.base, L.based.base_word) L.based.started;
+        below = λ l k t. same l k ∙ L.based.below l t;
+        above = λ l k t e. quorum_grows u h (added h x) g (commit_by 0 r.view l 1) (L.skipped l t (sym (same l k) ∙ e));
+        here = λ k. sym (L.based.below s k) ∙ z;
+        dropped = λ l e k f.
+            quorum_grows u h (added h x) g (commit_by 0 r.view l 0)
+            (L.kept l (own_drops s w a r.view l e) (omega arith)
+            (elim (cases_eq l s) [
+              | inl t ↦ subst (λ (n : ℕ). bit r.word n ≡ false) (sym t) z
+              | inr t ↦ elim f [ inl y ↦ absurd (t y) | inr y ↦ sym (same l (omega arith)) ∙ y ]
+            ]));
+      })
