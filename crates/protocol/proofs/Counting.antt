@@ -87,7 +87,7 @@ unfolding count
 count_none zero = refl
 count_none (suc n) = omega (arith, count_none n)
 
-weigh_ext : (a b : Bool) → a ≡ b → ◌≡◌ {A = ℕ} (cond a 1 0) (cond b 1 0)
+pub weigh_ext : (a b : Bool) → a ≡ b → ◌≡◌ {A = ℕ} (cond a 1 0) (cond b 1 0)
 weigh_ext a b e = ap (λ (x : Bool). cond x 1 0) e
 
 pub count_ext : (n : ℕ) (p q : ℕ → Bool) → ((i : ℕ) → i < n → p i ≡ q i) → count n p ≡ count n q

@@ -179,13 +179,12 @@ module _ (u : Setup) (V : Service) (h h' : Set) (B B' : Book) (w : Grown B B') (
       }
 
 -- replica j has said nothing new
-pub Silent : Set → Set → ℕ → Type 0
+abbrev pub Silent : Set → Set → ℕ → Type 0
 Silent h h' j = (y : Record) → y.signer ≡ j → Said h' y → Said h y
 
 pub good_later :
     (u : Setup) (V : Service) (h h' : Set) (B B' : Book) (j : ℕ) (r : Replica) → Grows h h' → Grown B B' → Silent h h' j
     → Good u V h B j r → Good u V h' B' j r
-unfolding Silent
 good_later u V h h' B B' j r g w O G =
     let T = stays h h' j r g (λ v s l n p. O (drop_by j v l) refl) (λ v s x a p. O (reply_by j v s x a) refl) (λ v l p. O (commit_by j v l 1) refl) in
     record {
@@ -197,7 +196,6 @@ good_later u V h h' B B' j r g w O G =
 
 -- a statement of another is none of j's
 pub silent_other : (x : Record) (h : Set) (j : ℕ) → (x.signer ≡ j → ⊥) → Silent h (added h x) j
-unfolding Silent
 silent_other x h j n y p e = elim (added_cases h x y e) [ inl q ↦ absurd (n (signer_of q ∙ p)) | inr q ↦ q ]
 
 -- replica i says x and becomes r', or only becomes r'

@@ -7,5 +7,9 @@ pub mod Later
 pub mod Speaking
 pub mod Voting
 pub mod Moving
+pub mod Signing
+pub mod Agreement
+pub mod Merging
+pub mod Keeping
 pub mod Stepping
 pub mod Calls

@@ -2,7 +2,7 @@
 use Rattle.std.proofs.Common.{◌≡◌, ℕ, ◌≤◌, true, ◌⊎◌, sym, refl, ap, ◌∙◌, subst, inl, inr, arith}
 use Rattle.std.proofs.lemmas.Bool.{or_left, or_right, or_cases}
 use Rattle.record.specs.Layout.{Layout}
-use Rattle.record.specs.Statements.{prepare_by, entry_by}
+use Rattle.record.specs.Statements.{prepare_by, view_change_by, entry_by}
 use Rattle.record.specs.declared.Record.{Record}
 use Rattle.record.proofs.Same.{same_decides}
 use Rattle.record.specs.Same.{same}
@@ -61,6 +61,22 @@ as_prepare y l e =
       slot = y.slot;
       verdict = y.verdict;
       word = word i;
+      result = result i;
+    }
+
+-- and a VIEW-CHANGE of its signer, view, last view, reach and word
+pub as_view_change : (y : Record) → Layout y → y.kind ≡ 7 → y ≡ view_change_by y.signer y.view y.last y.slot y.word
+as_view_change y l e =
+    let verdict : y.verdict ≡ 0 = l.no_verdict_above (omega arith) in
+    let result : y.result ≡ 0 = l.no_result (λ k. omega arith) in
+    λ i. record {
+      kind = e i;
+      signer = y.signer;
+      view = y.view;
+      last = y.last;
+      slot = y.slot;
+      verdict = verdict i;
+      word = y.word;
       result = result i;
     }
 
