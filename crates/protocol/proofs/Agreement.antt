@@ -1,17 +1,18 @@
 -- The views agree: what a quorum certified in one view, every later view starts from.
---   Seen u h v s w b         — what a certified answer, for slot s along the word w in view v, says of the base b of its view
---   Marks u h v p            — the test p keeps view v: it follows the view's base, and above it is true at the no-ops that are certified, and at no slot but those that are prepared as no-ops
---   Carried a s f b          — the base b goes past slot s, and its bits from a through s are those of f
---   Met u m x v n w          — an honest replica said x, and its VIEW-CHANGE is one of those that the merge n, w for view v was made from
-use Rattle.std.proofs.Common.{◌≡◌, ℕ, zero, suc, ◌^◌, ◌<◌, ◌≤◌, Bool, true, false, sym, refl, ap, ◌∙◌, subst, ap₂, inl, inr, arith}
-use Rattle.std.proofs.lemmas.Bool.{both_ways, cases_lt, cases_order, cases_Bool, true_from_ne_false, false_from_ne_true}
+--   Seen u h v s w b    — what an answer certified in view v, for slot s along the word w, says of the base b of its view
+--   Marks u h v p       — the test p keeps view v: it has the bits of the view's base, it is true at each no-op that was certified in v, and above the base at none but those that were prepared
+--   Carried a s f b     — the base b goes past slot s, and its bits from a through s are those of f
+--   Met u m x v t n w   — an honest replica said x, and a VIEW-CHANGE for view v that the line n, w of the merge from view t covers
+use Rattle.std.proofs.Common.{◌≡◌, ℕ, zero, suc, ◌<◌, ◌≤◌, Bool, true, false, sym, refl, ap, ◌∙◌, subst, ap₂, inl, inr, arith}
+use Rattle.std.proofs.lemmas.Bool.{both_ways, cases_lt, cases_Bool, true_from_ne_false, false_from_ne_true}
+use Rattle.record.specs.Layout.{Layout}
 use Rattle.record.specs.Statements.{reply_by, drop_by, prepare_by, commit_by, entry_by}
 use Rattle.record.specs.declared.Record.{Record}
 use Rattle.register.specs.Sets.{Set}
 use Rattle.quorum.specs.Quorums.{said, signed_by}
 use Rattle.replica.specs.Words.{bit}
 use Rattle.replica.proofs.Words.{bit_above}
-use Rattle.protocol.specs.Setup.{Setup, foreign, QuorumSaid}
+use Rattle.protocol.specs.Setup.{Setup, QuorumSaid}
 use Rattle.protocol.specs.Service.{Service}
 use Rattle.protocol.specs.Model.{Model, stamps}
 use Rattle.protocol.specs.Rules.{Said, Started}
@@ -48,6 +49,9 @@ module _ (u : Setup) (V : Service) (m : Model) (I : Inv u V m) where
       (I.good b.who b.honest).once (signed_by x b.who) (signed_by y b.who) refl b.first b.second
       (record { bound = r.bound; kinds = r.kinds; signers = refl; views = r.views; slots = r.slots }) in
       ap (λ (z : Record). signed_by z 0) same
+
+  pub quorum_layout : (x : Record) → QuorumSaid u m.held x → (i : ℕ) × Layout (signed_by x i)
+  quorum_layout x q = let r = member u I.few (said m.held x) q in (r.who, I.layout (signed_by x r.who) r.says)
 
   -- a view starts from one base
   pub started_unique : (v : ℕ) (b b' : ℕ × ℕ) → Started u m.held v b → Started u m.held v b' → b ≡ b'
@@ -91,7 +95,7 @@ module _ (u : Setup) (V : Service) (m : Model) (I : Inv u V m) where
       let t = prepare_of u V m I r.who r.honest v l d r.says in
       subst (λ (c : ℕ × ℕ). c.0 ≤ l) (started_unique v (t.base, t.base_word) b t.started e) t.from
 
-  -- a slot that is prepared as a no-op is one in the word of an answer that goes past it
+  -- where a slot through that of a certified answer is prepared as a no-op, the answer's word has it so
   pub reply_prepare :
       (v s w a l : ℕ) → QuorumSaid u m.held (reply_by 0 v s w a) → QuorumSaid u m.held (prepare_by 0 v l 1) → l ≤ s
       → bit w l ≡ true
@@ -105,7 +109,7 @@ module _ (u : Setup) (V : Service) (m : Model) (I : Inv u V m) where
   answer_seen v s w a b q e =
       let r = member u I.few (said m.held (reply_by 0 v s w a)) q in
       let g = reply_of u V m I r.who r.honest v s w a r.says in
-      let none : (l : ℕ) → s ≤ l → bit w l ≡ false = λ l h. bit_above s l w (I.layout (reply_by r.who v s w a) r.says).word h in
+      let none : (l : ℕ) → s ≤ l → bit w l ≡ false = λ l h. bit_above s l w (quorum_layout (reply_by 0 v s w a) q).1.word h in
       subst (λ (c : ℕ × ℕ). Seen u m.held v s w c) (started_unique v (g.base, g.base_word) b g.started e)
       (record {
         below = λ l h k. elim (cases_lt l s) [
@@ -141,17 +145,17 @@ module _ (u : Setup) (V : Service) (m : Model) (I : Inv u V m) where
       let p = M.pledged r.who r.below r.first in
       record { who = r.who; says = r.second; pledge = p; change = change_of u V m I r.who r.honest v p.last p.reach p.word p.said }
 
-  -- what a merge takes over from its top view v or from before, every start of a later view has
+  -- what each merge from view v or from before has, the base of every view after v has
   carry :
-      (v a s : ℕ) (f : ℕ → Bool)
+      (v a s : ℕ) (f : ℕ → Bool) (fuel t : ℕ) (b : ℕ × ℕ) → t < fuel → v < t → Started u m.held t b
       → ((t : ℕ) (b : ℕ × ℕ) → v < t → Started u m.held t b → (M : Merged u m.held (stamps m) t b.0 b.1) → M.top ≤ v → Carried a s f b)
-      → (fuel t : ℕ) (b : ℕ × ℕ) → t < fuel → v < t → Started u m.held t b → Carried a s f b
-  carry v a s f step zero t b k h e = absurd (omega arith)
-  carry v a s f step (suc fuel) t b k h e =
+      → Carried a s f b
+  carry v a s f zero t b k h e step = absurd (omega arith)
+  carry v a s f (suc fuel) t b k h e step =
       let M = started_merged t b (omega arith) e in
       elim (cases_lt v M.top) [
         | inl j ↦
-            let c = carry v a s f step fuel M.top (M.base, M.base_word) (omega (arith, M.older)) j M.started in
+            let c = carry v a s f fuel M.top (M.base, M.base_word) (omega (arith, M.older)) j M.started step in
             record {
               within = omega (arith, c.within, M.order);
               bits = λ l p q. M.below l (omega (arith, c.within)) ∙ c.bits l p q;
@@ -164,7 +168,7 @@ module _ (u : Setup) (V : Service) (m : Model) (I : Inv u V m) where
       (v s t : ℕ) (b : ℕ × ℕ) → QuorumSaid u m.held (commit_by 0 v s 1) → v < t → Started u m.held t b
       → Carried s s (λ _. true) b
   skip_carried v s t b q h e =
-      carry v s s (λ _. true)
+      carry v s s (λ _. true) (suc t) t b (omega arith) h e
       (λ t b h e M j.
       let k = met (commit_by 0 v s 1) t b.0 b.1 q M in
       let c = k.change.commits v s h k.says in
@@ -173,7 +177,7 @@ module _ (u : Setup) (V : Service) (m : Model) (I : Inv u V m) where
       record {
         within = omega (arith, (c.1 last).1, k.pledge.within top);
         bits = λ l p r. let same : l ≡ s = omega arith in ap (bit b.1) same ∙ k.pledge.bits top s (c.1 last).0;
-      }) (suc t) t b (omega arith) h e
+      })
 
   -- a merge keeps the view that it starts from
   merged_marks :
@@ -187,12 +191,12 @@ module _ (u : Setup) (V : Service) (m : Model) (I : Inv u V m) where
         no_ops = λ l q. (skip_carried M.top l t b q M.older e).bits l (omega arith) (omega arith);
       }
 
-  -- and so are a certified answer's slot and the word below it
+  -- and so are the slot of a certified answer and the word below it
   pub answer_carried :
       (v s w a t : ℕ) (b : ℕ × ℕ) → QuorumSaid u m.held (reply_by 0 v s w a) → v < t → Started u m.held t b
       → Carried 0 s (bit w) b
   answer_carried v s w a t b q h e =
-      carry v 0 s (bit w)
+      carry v 0 s (bit w) (suc t) t b (omega arith) h e
       (λ t b h e M j.
       let k = met (reply_by 0 v s w a) t b.0 b.1 q M in
       let c = k.change.replies v s w a h k.says in
@@ -202,4 +206,4 @@ module _ (u : Setup) (V : Service) (m : Model) (I : Inv u V m) where
       record {
         within = omega (arith, c.1 last, k.pledge.within top);
         bits = λ l _ p. answer_marked M.top s w a (bit b.1) here (merged_marks t b e M) l p;
-      }) (suc t) t b (omega arith) h e
+      })

@@ -1,4 +1,4 @@
--- Each call of one replica, or of none, is a step of the rules.
+-- Each call is a step of the rules.
 use Rattle.std.proofs.Common.{◌≡◌, ℕ, ◌<◌, ◌≤◌, true, false, List, length, is_ok, Ok, sym, ap, subst, arith, rules}
 use Rattle.std.proofs.lemmas.Bool.{leb-true}
 use Rattle.refusal.specs.Grounds.{and_then, unless}
@@ -32,12 +32,13 @@ use Rattle.protocol.specs.Forge.{forge}
 use Rattle.protocol.specs.Lead.{lead}
 use Rattle.protocol.specs.Start.{start}
 use Rattle.protocol.specs.Enter.{enter}
+use Rattle.protocol.specs.Call.{Call, Stamp, Deliver, Find, Drop, Decide, Prepare, Commit, Settle, Reply, Leave, Forge, Lead, Start, Enter, AskAnswer, AskNoOp, meaning}
 use Rattle.protocol.specs.Model.{stamps, says}
 use Rattle.protocol.specs.Rules as moves
 use Rattle.protocol.specs.Rules.{Works, Open, Upto}
 use Rattle.protocol.specs.Steps.{model}
 use Rattle.protocol.proofs.Books.{known_below}
-use Rattle.protocol.proofs.Stepping.{Sound, Kept, then_left, then_right, speaks, speaks_only, forged, turns, stamps_one}
+use Rattle.protocol.proofs.Stepping.{Sound, Kept, stays, then_left, then_right, speaks, speaks_only, forged, turns, stamps_one}
 
 module _ (u : Setup) (V : Service) (x : State) (S : Sound u V x) where
   -- a replica below n has a place
@@ -238,3 +239,22 @@ module _ (u : Setup) (V : Service) (x : State) (S : Sound u V x) where
         moves.begin i ps (n, w) (record { honest = honest; leaving = leaving }) unmarked view-start
             (checked_from _ _ _ _ _ ps (n, w) merges),
       ))
+
+  -- every call is a step of the rules
+  pub call_step : (c : Call) → Kept u V x (meaning u V x c).after
+  call_step (Stamp op) = stamp_step op
+  call_step (Deliver i s) = deliver_step i s
+  call_step (Find i) = find_step i
+  call_step (Drop i) = drop_step i
+  call_step (Decide i s d) = decide_step i s d
+  call_step (Prepare i s d) = prepare_step i s d
+  call_step (Commit i s d) = commit_step i s d
+  call_step (Settle i s d) = settle_step i s d
+  call_step (Reply i s) = reply_step i s
+  call_step (Leave i t) = leave_step i t
+  call_step (Forge r) = forge_step r
+  call_step (Lead i ps n w) = lead_step i ps n w
+  call_step (Start i ps n w) = start_step i ps n w
+  call_step (Enter i n w v) = enter_step i n w v
+  call_step (AskAnswer b v s w a) = stays u V x S
+  call_step (AskNoOp b v s) = stays u V x S

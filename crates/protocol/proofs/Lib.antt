@@ -9,7 +9,13 @@ pub mod Voting
 pub mod Moving
 pub mod Signing
 pub mod Agreement
+pub mod Witness
 pub mod Merging
 pub mod Keeping
 pub mod Stepping
 pub mod Calls
+pub mod Opening
+pub mod Entries
+pub mod Lives
+pub mod Ledger
+pub mod Example

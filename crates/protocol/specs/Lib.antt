@@ -22,6 +22,7 @@ pub mod NoOp
 pub mod Call
 pub mod Life
 pub mod Law
+pub mod Example
 pub mod Model
 pub mod Rules
 pub mod Steps

@@ -17,11 +17,11 @@ use Rattle.replica.specs.Verdicts.{is_no_op, sealed_with, with_verdict}
 same_test : (a b : ℕ) → a ≡ b → eqb a 1 ≡ eqb b 1
 same_test a b e = ap (λ (x : ℕ). eqb x 1) e
 
-bit_zero : (w : ℕ) → bit w 0 ≡ eqb (w % 2) 1
+pub bit_zero : (w : ℕ) → bit w 0 ≡ eqb (w % 2) 1
 unfolding bit
 bit_zero w = same_test (w / 1 % 2) (w % 2) (omega arith)
 
-bit_suc : (w l : ℕ) → bit w (suc l) ≡ bit (w / 2) l
+pub bit_suc : (w l : ℕ) → bit w (suc l) ≡ bit (w / 2) l
 unfolding bit
 bit_suc w l = ap (λ (x : ℕ). eqb (x % 2) 1) (ap (λ (x : ℕ). w / 2 ^ x) (sym (one-add l)) ∙ sym (shr-shr w 1 l))
 

@@ -1,0 +1,54 @@
+-- Every call of every life keeps the rules, and every life keeps one ledger.
+use Rattle.std.proofs.Common.{◌≡◌, ℕ, zero, suc, length, get_or, replicate, take, sym, refl, subst, arith}
+use Rattle.replica.specs.Replicas.{still}
+use Rattle.protocol.specs.Setup.{Setup}
+use Rattle.protocol.specs.Service.{Service}
+use Rattle.protocol.specs.State.{State, opened}
+use Rattle.protocol.specs.Model.{start}
+use Rattle.protocol.specs.Call.{Call, meaning}
+use Rattle.protocol.specs.Life.{Life, state_at}
+use Rattle.protocol.specs.Law.{OneLedgerAlways}
+use Rattle.protocol.specs.Steps.{model, CallsKeepRules}
+use Rattle.protocol.proofs.Invariant.{Inv}
+use Rattle.protocol.proofs.Opening.{bound_of_open, few_of_open}
+use Rattle.protocol.proofs.Stepping.{Sound}
+use Rattle.protocol.proofs.Calls.{call_step}
+use Rattle.protocol.proofs.Keeping.{start_inv, allowed_inv}
+use Rattle.protocol.proofs.Entries.{kept_after}
+use Rattle.protocol.proofs.Witness.{witness}
+use Rattle.protocol.proofs.Lives.{ledger}
+
+sound_next : (u : Setup) (V : Service) (x : State) (c : Call) → Sound u V x → Sound u V (meaning u V x c).after
+sound_next u V x c S =
+    let K = call_step u V x S c in
+    record {
+      inv = subst (Inv u V) (sym K.step.moves) (allowed_inv u V (model x) S.inv K.step.move K.step.allowed K.step.entry);
+      bound = S.bound;
+      room = K.room;
+    }
+
+all_still : (n j : ℕ) → get_or (replicate n still) j still ≡ still
+all_still zero j = refl
+all_still (suc n) zero = refl
+all_still (suc n) (suc j) = all_still n j
+
+opens_at_start : (n : ℕ) → start ≡ model (opened n)
+opens_at_start n k =
+    record { stamped = start.stamped; held = start.held; replica = λ j. sym (all_still 16 j) k }
+
+state_sound : (y : Life) (k : ℕ) → Sound y.bench y.service (state_at y k)
+state_sound y k =
+    kept_after y.bench y.service (Sound y.bench y.service) (sound_next y.bench y.service) (take k y.calls) (opened y.places)
+    (record {
+      inv = subst (Inv y.bench y.service) (opens_at_start y.places) (start_inv y.bench y.service (few_of_open y.bench y.opens));
+      bound = bound_of_open y.bench y.opens;
+      room = refl;
+    })
+
+pub calls_keep_rules : CallsKeepRules
+calls_keep_rules y k c = (call_step y.bench y.service (state_at y k) (state_sound y k) c).step
+
+pub one_ledger_always : OneLedgerAlways
+one_ledger_always y =
+    let good = λ (k : ℕ). (state_sound y k).inv in
+    ledger y good (witness y.bench y.service (model (state_at y (length y.calls))) (good (length y.calls)))
