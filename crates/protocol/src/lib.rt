@@ -1,2 +1,29 @@
-//! The rules of a bench, and the statement of the law for every life of it, which is not proved yet.
+//! The rules of a bench, and the law that every life of it keeps one ledger.
+//!
+//! The rules are the definitions in `specs/`: one file for each call, and `Life` for lists of calls. The one function here does
+//! nothing: what it is for is its contract, which holds only while the law is proved of these definitions.
 #![tactic(auto)]
+
+ghost use Rattle.protocol.specs.Law.{OneLedgerAlways};
+ghost use Rattle.protocol.specs.Steps.{CallsKeepRules};
+ghost use Rattle.protocol.specs.Example.{ExampleGoes, ExampleLines, ExampleCertifies};
+
+/// The law, and what it stands on.
+#[tactic(
+    auto,
+    using(
+        crate::proofs::Ledger::one_ledger_always,
+        crate::proofs::Ledger::calls_keep_rules,
+        crate::proofs::Example::example_goes,
+        crate::proofs::Example::example_lines,
+        crate::proofs::Example::example_certifies
+    )
+)]
+pub fn one_ledger()
+    ensures every_life_keeps_one_ledger { OneLedgerAlways }
+    ensures every_call_keeps_the_rules { CallsKeepRules }
+    ensures example_has_its_outcomes { ExampleGoes }
+    ensures example_has_its_lines { ExampleLines }
+    ensures example_certifies { ExampleCertifies }
+{
+}
