@@ -102,27 +102,15 @@ module _ (u : Setup) (V : Service) (m : Model) (I : Inv u V m) where
   reply_prepare v s w a l q p h =
       let r = intersect u I.few (said m.held (reply_by 0 v s w a)) (said m.held (drop_by 0 v l)) q (prepare_drop v l p) in
       let g = reply_of u V m I r.who r.honest v s w a r.first in
-      true_from_ne_false (bit w l) (λ e. prepare_clash v l (commit_prepare v l 0 (g.dropped l r.second h (inr e))) p)
+      true_from_ne_false (bit w l) (λ e. prepare_clash v l (commit_prepare v l 0 (g.dropped l r.second h e)) p)
 
   pub answer_seen :
       (v s w a : ℕ) (b : ℕ × ℕ) → QuorumSaid u m.held (reply_by 0 v s w a) → Started u m.held v b → Seen u m.held v s w b
   answer_seen v s w a b q e =
       let r = member u I.few (said m.held (reply_by 0 v s w a)) q in
       let g = reply_of u V m I r.who r.honest v s w a r.says in
-      let none : (l : ℕ) → s ≤ l → bit w l ≡ false = λ l h. bit_above s l w (quorum_layout (reply_by 0 v s w a) q).1.word h in
       subst (λ (c : ℕ × ℕ). Seen u m.held v s w c) (started_unique v (g.base, g.base_word) b g.started e)
-      (record {
-        below = λ l h k. elim (cases_lt l s) [
-          | inl j ↦ g.below l j k
-          | inr j ↦
-              let end : l ≡ s = omega arith in
-              none l j ∙ sym (ap (bit g.base_word) end ∙ g.here (omega arith))
-        ];
-        above = λ l h k t. elim (cases_lt l s) [
-          | inl j ↦ g.above l j k t
-          | inr j ↦ absurd (both_ways (bit w l) (none l j) t)
-        ];
-      })
+      (record { below = g.below; above = g.above })
 
   -- a test that keeps the view of an answer has the answer's bits
   pub answer_marked :

@@ -55,10 +55,9 @@ pub record Reply (u : Setup) (V : Service) (h : Set) (B : Book) (i v n v' s w a 
   pub base : ℕ
   pub base_word : ℕ
   pub started : Started u h v' (base, base_word)
-  pub below : (l : ℕ) → l < s → l < base → bit w l ≡ bit base_word l
-  pub above : (l : ℕ) → l < s → base ≤ l → bit w l ≡ true → QuorumSaid u h (commit_by 0 v' l 1)
-  pub here : s < base → bit base_word s ≡ false
-  pub dropped : (l : ℕ) → Said h (drop_by i v' l) → l ≤ s → (l ≡ s) ⊎ (bit w l ≡ false) → QuorumSaid u h (commit_by 0 v' l 0)
+  pub below : (l : ℕ) → l ≤ s → l < base → bit w l ≡ bit base_word l
+  pub above : (l : ℕ) → l ≤ s → base ≤ l → bit w l ≡ true → QuorumSaid u h (commit_by 0 v' l 1)
+  pub dropped : (l : ℕ) → Said h (drop_by i v' l) → l ≤ s → bit w l ≡ false → QuorumSaid u h (commit_by 0 v' l 0)
 
 pub record Prepare (u : Setup) (h : Set) (v l d : ℕ) : Type 0 where
   pub dropped : d ≡ 1 → QuorumSaid u h (drop_by 0 v l)
@@ -70,7 +69,6 @@ pub record Prepare (u : Setup) (h : Set) (v l d : ℕ) : Type 0 where
 pub record Commit (u : Setup) (h : Set) (B : Book) (v w v' l d : ℕ) : Type 0 where
   pub prepared : QuorumSaid u h (prepare_by 0 v' l d)
   pub known : Known B l
-  pub short : l < 64
   pub sealed : v' ≡ v → d ≡ 1 → bit w l ≡ true
 
 pub record Change (h : Set) (i t v last n w : ℕ) : Type 0 where

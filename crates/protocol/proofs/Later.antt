@@ -9,7 +9,7 @@ use Rattle.protocol.specs.Setup.{Setup, QuorumSaid}
 use Rattle.protocol.specs.Service.{Service, Book, Known}
 use Rattle.protocol.specs.Rules.{Said, Upto}
 use Rattle.protocol.proofs.Books.{Grown, grown_refl, grown_same, answer_alike}
-use Rattle.protocol.proofs.Saying.{signer_of, added_cases, Grows, added_grows, quorum_grows, started_grows, once_more}
+use Rattle.protocol.proofs.Saying.{signer_of, added_cases, added_other, Grows, added_grows, quorum_grows, started_grows, once_more}
 use Rattle.protocol.proofs.Invariant.{Tidy, Based, Line, Reply, Prepare, Commit, Change, Merged, Ready, Fact, Past, Rivals, Once, Good}
 
 module _ (u : Setup) (h h' : Set) (g : Grows h h') (B B' : Book) (w : Grown B B') where
@@ -48,7 +48,6 @@ module _ (u : Setup) (h h' : Set) (g : Grows h h') (B B' : Book) (w : Grown B B'
         started = started_grows u h h' g t (R.base, R.base_word) R.started;
         below = R.below;
         above = λ l q k e. quorum_grows u h h' g (commit_by 0 t l 1) (R.above l q k e);
-        here = R.here;
         dropped = λ l d q e. quorum_grows u h h' g (commit_by 0 t l 0) (R.dropped l (own l q d) q e);
       }
 
@@ -69,7 +68,6 @@ module _ (u : Setup) (h h' : Set) (g : Grows h h') (B B' : Book) (w : Grown B B'
       record {
         prepared = quorum_grows u h h' g (prepare_by 0 t l d) C.prepared;
         known = known_later C.known;
-        short = C.short;
         sealed = λ e f. elim q [ inl k ↦ absurd (omega arith) | inr k ↦ k.1 (C.sealed (e ∙ sym k.0) f) ];
       }
 
@@ -138,6 +136,29 @@ stays h h' i r g d p c =
       drops = d;
       replies = p;
       commits = c;
+    }
+
+-- the kind k is not REPLY, DROP or COMMIT
+pub record Aside (k : ℕ) : Type 0 where
+  pub reply : k ≡ 1 → ⊥
+  pub drop : k ≡ 3 → ⊥
+  pub commit : k ≡ 6 → ⊥
+
+-- a turn by a statement x of such a kind
+pub aside :
+    (h : Set) (i : ℕ) (r r' : Replica) (x : Record) → Aside x.kind
+    → (r.view ≡ r'.view) × (r.length ≤ r'.length) × ((l : ℕ) → bit r.sealed l ≡ true → bit r'.sealed l ≡ true) → r.target ≤ r'.target
+    → ((t : ℕ) → t ≤ r.target → (t ≡ r.target → r.view < r.target → r.mark ≡ true) → t ≡ r'.target → r'.view < r'.target → r'.mark ≡ true)
+    → Turn h (added h x) i r r'
+aside h i r r' x A view target mark =
+    record {
+      grows = added_grows h x;
+      view = inr view;
+      target = target;
+      mark = mark;
+      drops = λ v s l n p. added_other h x (drop_by i v l) A.drop;
+      replies = λ v s w a p. added_other h x (reply_by i v s w a) A.reply;
+      commits = λ v l p. added_other h x (commit_by i v l 1) A.commit;
     }
 
 module _ (u : Setup) (V : Service) (h h' : Set) (B B' : Book) (w : Grown B B') (i : ℕ) (r r' : Replica) (T : Turn h h' i r r') where

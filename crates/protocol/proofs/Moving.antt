@@ -14,7 +14,7 @@ use Rattle.protocol.specs.Rules.{Said, Started}
 use Rattle.protocol.proofs.Books.{grown_refl}
 use Rattle.protocol.proofs.Saying.{added_other, added_grows}
 use Rattle.protocol.proofs.Invariant.{Merged, Rivals, Good}
-use Rattle.protocol.proofs.Later.{Turn, line_kept, speak_good, turn_good, merged_later}
+use Rattle.protocol.proofs.Later.{aside, line_kept, speak_good, turn_good, merged_later}
 
 module _ (u : Setup) (V : Service) (h : Set) (B : Book) (i : ℕ) (r : Replica) (G : Good u V h B i r) where
   pub leave_good :
@@ -26,16 +26,7 @@ module _ (u : Setup) (V : Service) (h : Set) (B : Book) (i : ℕ) (r : Replica) 
       λ v s w a. added_other h x (reply_by i v s w a) (λ k. omega arith) in
       let commits : (v l : ℕ) → Said (added h x) (commit_by i v l 1) → Said h (commit_by i v l 1) =
       λ v l. added_other h x (commit_by i v l 1) (λ k. omega arith) in
-      let T : Turn h (added h x) i r (left r t) =
-      record {
-        grows = added_grows h x;
-        view = inr (refl, omega arith, λ l e. e);
-        target = omega arith;
-        mark = λ v k f y z. absurd (omega arith);
-        drops = λ v s l n q. added_other h x (drop_by i v l) (λ k. omega arith);
-        replies = λ v s w a q. replies v s w a;
-        commits = λ v l q. commits v l;
-      } in
+      let T = aside h i r (left r t) x (omega arith) (refl, omega arith, λ l e. e) (omega arith) (λ v k f y z. absurd (omega arith)) in
       let new : (y : Record) → Said h y → Rivals x y → x ≡ y =
       λ y e k. absurd (omega (arith, k.views, ((G.facts y (sym k.signers) e).change (sym k.kinds)).past)) in
       speak_good u V h B i r (left r t) G x T (omega (arith, G.tidy))
@@ -69,16 +60,7 @@ module _ (u : Setup) (V : Service) (h : Set) (B : Book) (i : ℕ) (r : Replica) 
       let x = entry_by i r.target n w in
       let new : (y : Record) → Said h y → Rivals x y → x ≡ y =
       λ y e k. absurd (both_ways r.mark z (((G.facts y (sym k.signers) e).entry (sym k.kinds)).marked (sym k.views) p)) in
-      let T : Turn h (added h x) i r (started r) =
-      record {
-        grows = added_grows h x;
-        view = inr (refl, omega arith, λ l e. e);
-        target = omega arith;
-        mark = λ t k f y q. refl;
-        drops = λ v s l k q. added_other h x (drop_by i v l) (λ e. omega arith);
-        replies = λ v s y a q. added_other h x (reply_by i v s y a) (λ e. omega arith);
-        commits = λ v l q. added_other h x (commit_by i v l 1) (λ e. omega arith);
-      } in
+      let T = aside h i r (started r) x (omega arith) (refl, omega arith, λ l e. e) (omega arith) (λ t k f y q. refl) in
       speak_good u V h B i r (started r) G x T G.tidy
       (line_kept u V h (added h x) B B (grown_refl B) i r (started r) T refl refl refl refl G.line)
       (record {

@@ -1,6 +1,6 @@
 -- Replies and drops, and statements of which nothing more is asked, keep what holds of the replica that says them.
-use Rattle.std.proofs.Common.{◌≡◌, ℕ, ◌+◌, ◌%◌, ◌^◌, ◌<◌, ◌≤◌, true, false, ◌⊎◌, sym, refl, ap, ◌∙◌, subst, inl, inr, arith}
-use Rattle.std.proofs.lemmas.Bool.{both_ways, cases_eq}
+use Rattle.std.proofs.Common.{◌≡◌, ℕ, ◌+◌, ◌%◌, ◌^◌, ◌<◌, ◌≤◌, true, false, ◌⊎◌, sym, refl, ap, ◌∙◌, subst, inl, inr, arith, mod-lt, pow_pos}
+use Rattle.std.proofs.lemmas.Bool.{both_ways, cases_eq, cases_lt}
 use native.Mathlib.Nat.{lt_of_lt_of_le}
 use lib.Pow.{pow_mono}
 use Rattle.record.specs.Statements.{reply_by, drop_by, commit_by}
@@ -9,7 +9,7 @@ use Rattle.register.specs.Sets.{Set, added}
 use Rattle.replica.specs.Words.{bit}
 use Rattle.replica.specs.Replicas.{longer, delivered}
 use Rattle.replica.specs.declared.Replica.{Replica}
-use Rattle.replica.proofs.Words.{bit_mod}
+use Rattle.replica.proofs.Words.{bit_mod, bit_above}
 use Rattle.replica.proofs.Lines.{longer_is}
 use Rattle.protocol.specs.Setup.{Setup, QuorumSaid}
 use Rattle.protocol.specs.Service.{Service, Book, answer_at}
@@ -109,13 +109,10 @@ module _ (u : Setup) (V : Service) (h : Set) (B : Book) (i : ℕ) (r : Replica) 
       let more : longer r.length ≡ r.length + 1 = longer_is r.length room in
       let wider : 2 ^ r.length ≤ 2 ^ longer r.length = pow_mono (omega arith) in
       let old = own_drops r.length r.word (answer_at V B r.word r.length) r.view in
-      let kept : (l : ℕ) → Said h (drop_by i r.view l) → l ≤ r.length → (l ≡ r.length) ⊎ (bit r.word l ≡ false) → QuorumSaid u (added h x) (commit_by 0 r.view l 0) =
+      let kept : (l : ℕ) → Said (added h x) (drop_by i r.view l) → l ≤ r.length → bit r.word l ≡ false → QuorumSaid u (added h x) (commit_by 0 r.view l 0) =
       λ l e q f. elim (cases_eq l r.length) [
-        | inl t ↦ absurd (both_ways (h (drop_by i r.view r.length)) d (subst (λ (n : ℕ). h (drop_by i r.view n) ≡ true) t e))
-        | inr t ↦ elim f [
-          | inl y ↦ absurd (t y)
-          | inr y ↦ quorum_grows u h (added h x) g (commit_by 0 r.view l 0) (L.kept l e (omega arith) y)
-        ]
+        | inl t ↦ absurd (both_ways (h (drop_by i r.view r.length)) d (subst (λ (n : ℕ). h (drop_by i r.view n) ≡ true) t (old l e)))
+        | inr t ↦ quorum_grows u h (added h x) g (commit_by 0 r.view l 0) (L.kept l (old l e) (omega arith) f)
       ] in
       replied r.length r.word (answer_at V B r.word r.length) (delivered r) refl refl refl refl (omega arith)
       (record {
@@ -124,7 +121,7 @@ module _ (u : Setup) (V : Service) (h : Set) (B : Book) (i : ℕ) (r : Replica) 
         small = lt_of_lt_of_le L.small wider;
         based = based_later u h (added h x) g B B (grown_refl B) L.based;
         skipped = λ l q e. quorum_grows u h (added h x) g (commit_by 0 r.view l 1) (L.skipped l q e);
-        kept = λ l e q f. kept l (old l e) (omega arith) (inr f);
+        kept = λ l e q f. kept l e (omega arith) f;
       })
       (record {
         now = λ e. omega arith;
@@ -135,8 +132,7 @@ module _ (u : Setup) (V : Service) (h : Set) (B : Book) (i : ℕ) (r : Replica) 
         started = started_grows u h (added h x) g r.view (r.base, L.based.base_word) L.based.started;
         below = λ l q t. L.based.below l t;
         above = λ l q t e. quorum_grows u h (added h x) g (commit_by 0 r.view l 1) (L.skipped l t e);
-        here = λ q. absurd (omega (arith, L.order));
-        dropped = λ l e q f. kept l (old l e) q f;
+        dropped = kept;
       })
 
   pub reply_good :
@@ -148,7 +144,13 @@ module _ (u : Setup) (V : Service) (h : Set) (B : Book) (i : ℕ) (r : Replica) 
       let x = reply_by i r.view s w a in
       let g : Grows h (added h x) = added_grows h x in
       let L = G.line in
-      let same : (l : ℕ) → l < s → bit w l ≡ bit r.word l = λ l k. bit_mod s l r.word k in
+      let same : (l : ℕ) → l ≤ s → bit w l ≡ bit r.word l =
+      λ l k. elim (cases_lt l s) [
+        | inl t ↦ bit_mod s l r.word t
+        | inr t ↦
+            let end : l ≡ s = omega arith in
+            subst (λ (n : ℕ). bit w n ≡ bit r.word n) (sym end) (bit_above s s w (mod-lt r.word (pow_pos s)) (omega arith) ∙ sym z)
+      ] in
       replied s w a r refl refl refl refl (omega arith)
       (line_kept u V h (added h x) B B (grown_refl B) i r r
       (stays h (added h x) i r g (λ v s' l n p. own_drops s w a v l) (own_replies s w a)
@@ -157,18 +159,13 @@ module _ (u : Setup) (V : Service) (h : Set) (B : Book) (i : ℕ) (r : Replica) 
       (record {
         now = λ e. q;
         stamped = p;
-        right = answer_alike V B B r.word w s (λ l k. refl) (λ l k. sym (same l k));
+        right = answer_alike V B B r.word w s (λ l k. refl) (λ l k. sym (same l (omega arith)));
         base = r.base;
         base_word = L.based.base_word;
         started = started_grows u h (added h x) g r.view (r.base, L.based.base_word) L.based.started;
         below = λ l k t. same l k ∙ L.based.below l t;
         above = λ l k t e. quorum_grows u h (added h x) g (commit_by 0 r.view l 1) (L.skipped l t (sym (same l k) ∙ e));
-        here = λ k. sym (L.based.below s k) ∙ z;
         dropped = λ l e k f.
             quorum_grows u h (added h x) g (commit_by 0 r.view l 0)
-            (L.kept l (own_drops s w a r.view l e) (omega arith)
-            (elim (cases_eq l s) [
-              | inl t ↦ subst (λ (n : ℕ). bit r.word n ≡ false) (sym t) z
-              | inr t ↦ elim f [ inl y ↦ absurd (t y) | inr y ↦ sym (same l (omega arith)) ∙ y ]
-            ]));
+            (L.kept l (own_drops s w a r.view l e) (omega arith) (sym (same l k) ∙ f));
       })

@@ -21,7 +21,7 @@ use Rattle.protocol.specs.Rules.{Said, Works, Open}
 use Rattle.protocol.proofs.Books.{grown_refl}
 use Rattle.protocol.proofs.Saying.{view_of, added_cases, added_other, Grows, added_grows, quorum_grows, started_grows, as_prepare}
 use Rattle.protocol.proofs.Invariant.{Rivals, Good}
-use Rattle.protocol.proofs.Later.{Turn, stays, line_kept, speak_good, turn_good}
+use Rattle.protocol.proofs.Later.{Turn, aside, line_kept, speak_good, turn_good}
 
 number_no_op : (d : Verdict) → verdict_number d ≡ 1 → d ≡ NoOp
 number_no_op NoOp e = refl
@@ -87,8 +87,7 @@ module _ (u : Setup) (V : Service) (h : Set) (B : Book) (i : ℕ) (r : Replica) 
             let o = number_other d y.verdict v.verdict t in
             absurd (both_ways (h y) (ap h (q ∙ (λ j. prepare_by i r.view s (o j))) ∙ unsaid) e)
       ] in
-      let T = stays h (added h x) i r g (λ v s' l k p. added_other h x (drop_by i v l) (λ k. omega arith))
-      (λ v s' w a p. added_other h x (reply_by i v s' w a) (λ k. omega arith)) (λ v l p. added_other h x (commit_by i v l 1) (λ k. omega arith)) in
+      let T = aside h i r r x (omega arith) (refl, omega arith, λ l e. e) (omega arith) (λ t k f. f) in
       speak_good u V h B i r r G x T G.tidy (line_kept u V h (added h x) B B (grown_refl B) i r r T refl refl refl refl G.line)
       (record {
         past = λ k. omega arith;
@@ -134,7 +133,6 @@ module _ (u : Setup) (V : Service) (h : Set) (B : Book) (i : ℕ) (r : Replica) 
             record {
               prepared = quorum_grows u h (added h x) g (prepare_by 0 r.view s (verdict_number d)) Q;
               known = O.known;
-              short = short;
               sealed = λ t k. sets_seal r.sealed s d short k;
             };
         change = λ k. absurd (omega arith);
