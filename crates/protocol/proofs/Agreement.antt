@@ -3,7 +3,7 @@
 --   Marks u h v p       — the test p keeps view v: it has the bits of the view's base, it is true at each no-op that was certified in v, and above the base at none but those that were prepared
 --   Carried a s f b     — the base b goes past slot s, and its bits from a through s are those of f
 --   Met u m x v t n w   — an honest replica said x, and a VIEW-CHANGE for view v that the line n, w of the merge from view t covers
-use Rattle.std.proofs.Common.{◌≡◌, ℕ, zero, suc, ◌<◌, ◌≤◌, Bool, true, false, sym, refl, ap, ◌∙◌, subst, ap₂, inl, inr, arith}
+use Rattle.std.proofs.Common.{◌≡◌, ℕ, zero, suc, ◌<◌, ◌≤◌, Bool, true, sym, refl, ap, ◌∙◌, subst, ap₂, inl, inr, arith}
 use Rattle.std.proofs.lemmas.Bool.{both_ways, cases_lt, cases_Bool, true_from_ne_false, false_from_ne_true}
 use Rattle.record.specs.Layout.{Layout}
 use Rattle.record.specs.Statements.{reply_by, drop_by, prepare_by, commit_by, entry_by}
@@ -11,7 +11,6 @@ use Rattle.record.specs.declared.Record.{Record}
 use Rattle.register.specs.Sets.{Set}
 use Rattle.quorum.specs.Quorums.{said, signed_by}
 use Rattle.replica.specs.Words.{bit}
-use Rattle.replica.proofs.Words.{bit_above}
 use Rattle.protocol.specs.Setup.{Setup, QuorumSaid}
 use Rattle.protocol.specs.Service.{Service}
 use Rattle.protocol.specs.Model.{Model, stamps}

@@ -2,6 +2,7 @@
 --   Tells x m  — after the call with the meaning m the register of the state x holds what it held and what the call entered, and nothing else; and stamped operations stay stamped
 use Rattle.std.proofs.Common.{◌≡◌, ℕ, zero, suc, ◌<◌, ◌≤◌, Bool, true, false, cond, ◌⊎◌, List, [], ◌∷◌, length, take, is_ok, Some, None, Option, sym, refl, ap, ◌∙◌, subst, inl, inr, arith}
 use Rattle.std.proofs.lemmas.Bool.{both_ways, or_cases, or_left, or_right}
+use Rattle.std.proofs.ByRecursion.{All-weaker}
 use Rattle.record.specs.Same.{same}
 use Rattle.record.specs.declared.Record.{Record}
 use Rattle.record.proofs.Same.{same_decides, same_refl}
@@ -28,7 +29,7 @@ use Rattle.protocol.specs.Call.{Call, Outcome, Meaning, Stamp, Deliver, Find, Dr
 use Rattle.protocol.specs.Life.{Life, run, outcomes, Enters, state_at, nth}
 use Rattle.protocol.specs.Law.{Entered, Signers}
 use Rattle.protocol.proofs.Books.{Grown, grown_refl, book_push}
-use Rattle.protocol.proofs.Signing.{all_map, count_of_list, list_of_count}
+use Rattle.protocol.proofs.Signing.{count_of_list, list_of_count}
 use Rattle.protocol.proofs.Stepping.{then_right, entered_held}
 
 pub record Tells (x : State) (m : Meaning) : Type 0 where
@@ -185,7 +186,7 @@ stamped_on y j k le =
 
 pub quorum_of_signers : (y : Life) (k : ℕ) (r : Record) → Signers y k r → QuorumSaid y.bench (state_at y k).held r
 quorum_of_signers y k r s =
-    let each = all_map _ (λ i. (i < replicas y.bench) × (said (state_at y k).held r i ≡ true))
+    let each = All-weaker _ (λ i. (i < replicas y.bench) × (said (state_at y k).held r i ≡ true))
     (λ i t. (t.0, held_of_entered y k (signed_by r i) t.1)) s.who s.each in
     omega (arith, s.enough, count_of_list (replicas y.bench) (said (state_at y k).held r) s.who s.different each)
 
@@ -196,5 +197,5 @@ signers_of_quorum y k r q =
       who = l.who;
       enough = l.enough;
       different = l.different;
-      each = all_map _ _ (λ i t. (t.0, entered_of_held y k (signed_by r i) t.1)) l.who l.each;
+      each = All-weaker _ _ (λ i t. (t.0, entered_of_held y k (signed_by r i) t.1)) l.who l.each;
     }

@@ -1,20 +1,19 @@
 -- Every move that the rules allow keeps the invariant, and a bench opens in it.
-use Rattle.std.proofs.Common.{◌≡◌, ℕ, ◌<◌, Bool, true, false, cond, eqb, List, [], ◌∷◌, ◌++◌, length, length-append, sym, refl, ap, ◌∙◌, subst, inl, inr, arith}
+use Rattle.std.proofs.Common.{◌≡◌, ℕ, ◌<◌, Bool, true, false, cond, eqb, [], ◌∷◌, length, length-append, sym, refl, ap, ◌∙◌, subst, inl, inr, arith}
 use Rattle.std.proofs.lemmas.Bool.{both_ways, eqb-true, eqb-false}
 use Rattle.record.specs.Layout.{Layout}
-use Rattle.record.specs.Statements.{view_start_by, entry_by}
+use Rattle.record.specs.Statements.{entry_by}
 use Rattle.record.specs.declared.Record.{Record}
 use Rattle.register.specs.Sets.{Set, added}
 use Rattle.quorum.specs.Quorums.{said}
 use Rattle.replica.specs.Words.{bit}
-use Rattle.replica.specs.Replicas.{still, delivered, committed, settled, left, started, entered}
-use Rattle.replica.specs.Verdicts.{verdict_number}
+use Rattle.replica.specs.Replicas.{delivered, committed, settled, left, started, entered}
 use Rattle.replica.specs.declared.Replica.{Replica}
-use Rattle.replica.proofs.Words.{bit_above}
+use Rattle.replica.proofs.Words.{bit_above, one_past_over}
 use Rattle.merge.specs.Merges.{merge}
 use Rattle.protocol.specs.Setup.{Setup, foreign, Few}
 use Rattle.protocol.specs.Service.{Service, Known}
-use Rattle.protocol.specs.Model.{Model, stamps, start, placed, Move, rests, stamping, forges, becomes, says, apply, Entry}
+use Rattle.protocol.specs.Model.{Model, stamps, start, placed, Move, stamping, forges, becomes, says, apply, Entry}
 use Rattle.protocol.specs.Rules.{Allowed, Said, rest, stamp, deliver, find, drop, decide, prepare, commit, settle, reply, leave, forge, lead, begin, enter}
 use Rattle.protocol.proofs.Books.{book_push, grown_refl, stamped_below}
 use Rattle.protocol.proofs.Counting.{member}
@@ -120,7 +119,7 @@ module _ (u : Setup) (V : Service) (m : Model) (I : Inv u V m) where
   allowed_inv a (deliver i w p d) v =
       let r = m.replica i in
       says_inv i (delivered r) _ refl v
-      (deliver_good u V m.held (stamps m) i r (I.good i w.honest) w (slot_low r.length (p r.length (omega arith))) p d)
+      (deliver_good u V m.held (stamps m) i r (I.good i w.honest) w _ (slot_low r.length (p r.length (omega arith))) p d refl)
   allowed_inv a (find i w e p) v =
       says_inv i (m.replica i) _ refl v
       (plain_good u V m.held (stamps m) i (m.replica i) (I.good i w.honest) _ (omega arith) (λ k. absurd (omega arith)) (λ k. omega arith))
@@ -141,10 +140,11 @@ module _ (u : Setup) (V : Service) (m : Model) (I : Inv u V m) where
       (settle_good u V m.held (stamps m) i (m.replica i) (I.good i w.honest) w s d (slot_low s O.known) O q)
   allowed_inv a (reply i s w p q z) v =
       says_inv i (m.replica i) _ refl v
-      (reply_good u V m.held (stamps m) i (m.replica i) (I.good i w.honest) w s p q z)
+      (reply_good u V m.held (stamps m) i (m.replica i) (I.good i w.honest) w s _ p q z refl)
   allowed_inv a (leave i t f p q) v =
       says_inv i (left (m.replica i) t) _ refl v
-      (leave_good u V m.held (stamps m) i (m.replica i) (I.good i f) t p q)
+      (leave_good u V m.held (stamps m) i (m.replica i) (I.good i f) t _ _ p q (omega arith)
+      (λ l e. (e, omega (arith, one_past_over (m.replica i).sealed l (I.good i f).tidy.small e))))
   allowed_inv a (lead i ps b w e C) v =
       says_inv i (m.replica i) _ refl v
       (plain_good u V m.held (stamps m) i (m.replica i) (I.good i w.honest) _ (omega arith) (λ k. absurd (omega arith)) (λ k. absurd (omega arith)))

@@ -1,16 +1,16 @@
 -- What holds of a replica and of its statements outlasts more statements and more operations.
-use Rattle.std.proofs.Common.{◌≡◌, ℕ, zero, suc, ◌<◌, ◌≤◌, Bool, true, false, cond, ◌⊎◌, eqb, sym, refl, ap, ◌∙◌, subst, inl, inr, arith}
+use Rattle.std.proofs.Common.{◌≡◌, ℕ, ◌<◌, ◌≤◌, Bool, true, ◌⊎◌, sym, refl, ◌∙◌, subst, inl, inr, arith}
 use Rattle.record.specs.Statements.{reply_by, drop_by, prepare_by, commit_by}
 use Rattle.record.specs.declared.Record.{Record}
 use Rattle.register.specs.Sets.{Set, added}
 use Rattle.replica.specs.Words.{bit}
 use Rattle.replica.specs.declared.Replica.{Replica}
-use Rattle.protocol.specs.Setup.{Setup, QuorumSaid}
+use Rattle.protocol.specs.Setup.{Setup}
 use Rattle.protocol.specs.Service.{Service, Book, Known}
-use Rattle.protocol.specs.Rules.{Said, Upto}
+use Rattle.protocol.specs.Rules.{Said}
 use Rattle.protocol.proofs.Books.{Grown, grown_refl, grown_same, answer_alike}
 use Rattle.protocol.proofs.Saying.{signer_of, added_cases, added_other, Grows, added_grows, quorum_grows, started_grows, once_more}
-use Rattle.protocol.proofs.Invariant.{Tidy, Based, Line, Reply, Prepare, Commit, Change, Merged, Ready, Fact, Past, Rivals, Once, Good}
+use Rattle.protocol.proofs.Invariant.{Tidy, Based, Line, Reply, Prepare, Commit, Change, Merged, Ready, Fact, Rivals, Good}
 
 module _ (u : Setup) (h h' : Set) (g : Grows h h') (B B' : Book) (w : Grown B B') where
   pub known_later : {l : ℕ} → Known B l → Known B' l

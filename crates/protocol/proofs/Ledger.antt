@@ -1,5 +1,5 @@
 -- Every call of every life keeps the rules, and every life keeps one ledger.
-use Rattle.std.proofs.Common.{◌≡◌, ℕ, zero, suc, length, get_or, replicate, take, sym, refl, subst, arith}
+use Rattle.std.proofs.Common.{◌≡◌, ℕ, zero, suc, length, get_or, replicate, take, sym, refl, subst}
 use Rattle.replica.specs.Replicas.{still}
 use Rattle.protocol.specs.Setup.{Setup}
 use Rattle.protocol.specs.Service.{Service}

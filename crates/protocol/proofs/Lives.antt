@@ -19,7 +19,7 @@ use Rattle.protocol.specs.Steps.{model}
 use Rattle.protocol.proofs.Books.{stamped_below}
 use Rattle.protocol.proofs.Certificates.{Certificates}
 use Rattle.protocol.proofs.Counting.{member, many_mono, Honest}
-use Rattle.protocol.proofs.Entries.{held_on, quorum_of_signers, signers_of_quorum, outcome_at, nth_below}
+use Rattle.protocol.proofs.Entries.{held_on, stamped_on, quorum_of_signers, signers_of_quorum, outcome_at, nth_below}
 use Rattle.protocol.proofs.Invariant.{Inv, reply_of, commit_of}
 
 -- a quorum stays one
@@ -110,6 +110,7 @@ module _
           no_ops = no_op_agrees;
           answers_last = λ j k v s w a le _ q. signers_on y j k (reply_by 0 v s w a) le q;
           no_ops_last = λ j k v s le _ q. signers_on y j k (commit_by 0 v s 1) le q;
+          stamped_last = λ j k l o le _ e. stamped_on y j k le l o e;
           answer_yes = λ k v s w a _ q. yes_of_signers y k (reply_by 0 v s w a) _ (answer_granted y k (good k) v s w a q) q;
           yes_answer = λ k v s w a _ e. signers_of_yes y k (reply_by 0 v s w a) (answer_grounds (state_at y k) 16 v s w) e;
           no_op_yes = λ k v s _ q. yes_of_signers y k (commit_by 0 v s 1) _ (no_op_granted y k (good k) v s q) q;

@@ -1,5 +1,5 @@
 -- The merge of good picks is a merge as the invariant has it.
-use Rattle.std.proofs.Common.{◌≡◌, ℕ, ◌^◌, ◌<◌, ◌≤◌, true, false, ◌⊎◌, List, [], ◌∷◌, length, map, sym, refl, ap, ◌∙◌, subst, inl, inr, arith, pow_pos}
+use Rattle.std.proofs.Common.{◌≡◌, ℕ, ◌^◌, ◌<◌, ◌≤◌, true, ◌⊎◌, List, [], ◌∷◌, length, map, sym, ap, ◌∙◌, subst, inl, inr, arith, pow_pos}
 use Rattle.std.proofs.ByRecursion.{All-weaker, All-map}
 use Rattle.std.proofs.lemmas.Bool.{both_ways, cases_lt, cases_Bool}
 use Rattle.std.proofs.lemmas.List.{length-map}
@@ -118,6 +118,7 @@ module _ (u : Setup) (V : Service) (m : Model) (I : Inv u V m) where
               absurd (omega (arith, stamped_below m.stamped (length m.stamped) o.0 o.1))
           | inr k ↦ k
         ]
+
         all : n ≤ length m.stamped
         all = length_least (top ps) b.0 (length m.stamped) ps base (All-weaker _ _ (λ p P. P.picked.reach) ps each)
 

@@ -1,13 +1,13 @@
 -- Leaving a view, and being ready for the next and entering it, keep what holds of the replica that does so.
-use Rattle.std.proofs.Common.{◌≡◌, ℕ, ◌^◌, ◌<◌, ◌≤◌, true, false, sym, refl, inl, inr, arith}
+use Rattle.std.proofs.Common.{◌≡◌, ℕ, ◌^◌, ◌<◌, ◌≤◌, true, false, sym, refl, inl, arith}
 use Rattle.std.proofs.lemmas.Bool.{both_ways}
 use Rattle.record.specs.Statements.{reply_by, drop_by, commit_by, view_change_by, entry_by}
 use Rattle.record.specs.declared.Record.{Record}
 use Rattle.register.specs.Sets.{Set, added}
 use Rattle.replica.specs.Words.{bit}
-use Rattle.replica.specs.Replicas.{reach, left, started, entered}
+use Rattle.replica.specs.Replicas.{left, started, entered}
 use Rattle.replica.specs.declared.Replica.{Replica}
-use Rattle.replica.proofs.Words.{bit_above, one_past_over}
+use Rattle.replica.proofs.Words.{bit_above}
 use Rattle.protocol.specs.Setup.{Setup}
 use Rattle.protocol.specs.Service.{Service, Book, Known}
 use Rattle.protocol.specs.Rules.{Said, Started}
@@ -17,15 +17,12 @@ use Rattle.protocol.proofs.Invariant.{Merged, Rivals, Good}
 use Rattle.protocol.proofs.Later.{aside, line_kept, speak_good, turn_good, merged_later}
 
 module _ (u : Setup) (V : Service) (h : Set) (B : Book) (i : ℕ) (r : Replica) (G : Good u V h B i r) where
+  -- the reach n and the word w of the VIEW-CHANGE cover the line and the sealed word
   pub leave_good :
-      (t : ℕ) → r.target < t → t ≤ 63
-      → Good u V (added h (view_change_by i t r.view (reach r) r.sealed)) B i (left r t)
-  leave_good t p top =
-      let x = view_change_by i t r.view (reach r) r.sealed in
-      let replies : (v s w a : ℕ) → Said (added h x) (reply_by i v s w a) → Said h (reply_by i v s w a) =
-      λ v s w a. added_other h x (reply_by i v s w a) (λ k. omega arith) in
-      let commits : (v l : ℕ) → Said (added h x) (commit_by i v l 1) → Said h (commit_by i v l 1) =
-      λ v l. added_other h x (commit_by i v l 1) (λ k. omega arith) in
+      (t n w : ℕ) → r.target < t → t ≤ 63 → r.length ≤ n → ((l : ℕ) → bit r.sealed l ≡ true → (bit w l ≡ true) × (l < n))
+      → Good u V (added h (view_change_by i t r.view n w)) B i (left r t)
+  leave_good t n w p top over covered =
+      let x = view_change_by i t r.view n w in
       let T = aside h i r (left r t) x (omega arith) (refl, omega arith, λ l e. e) (omega arith) (λ v k f y z. absurd (omega arith)) in
       let new : (y : Record) → Said h y → Rivals x y → x ≡ y =
       λ y e k. absurd (omega (arith, k.views, ((G.facts y (sym k.signers) e).change (sym k.kinds)).past)) in
@@ -39,15 +36,12 @@ module _ (u : Setup) (V : Service) (h : Set) (B : Book) (i : ℕ) (r : Replica) 
         change = λ k.
             record {
               past = omega arith;
-              replies = λ v s w a n d.
-                  let F = G.facts (reply_by i v s w a) refl (replies v s w a d) in
-                  ((F.past (omega arith)).old, λ e. omega (arith, (F.reply refl).now e));
-              commits = λ v l n d.
-                  let F = G.facts (commit_by i v l 1) refl (commits v l d) in
-                  let set : v ≡ r.view → bit r.sealed l ≡ true = λ e. (F.commit refl).sealed e refl in (
-                    (F.past (omega arith)).old,
-                    λ e. (set e, omega (arith, one_past_over r.sealed l G.tidy.small (set e))),
-                  );
+              replies = λ v s y a j d.
+                  let F = G.facts (reply_by i v s y a) refl (added_other h x (reply_by i v s y a) (λ e. omega arith) d) in
+                  ((F.past (omega arith)).old, λ e. omega (arith, (F.reply refl).now e, over));
+              commits = λ v l j d.
+                  let F = G.facts (commit_by i v l 1) refl (added_other h x (commit_by i v l 1) (λ e. omega arith) d) in
+                  ((F.past (omega arith)).old, λ e. covered l ((F.commit refl).sealed e refl));
             };
         entry = λ k. absurd (omega arith);
       })

@@ -36,9 +36,6 @@ count_bits (suc n) w =
     )
 
 module _ (u : Setup) (e : open_grounds u true ≡ Ok tt) where
-  pub some_of_open : 1 ≤ u.f
-  some_of_open = search rules
-
   pub bound_of_open : u.f ≤ 5
   bound_of_open = search rules
 

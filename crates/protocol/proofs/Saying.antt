@@ -1,5 +1,5 @@
 -- What is said after one more statement, and what stays true of all that was said.
-use Rattle.std.proofs.Common.{◌≡◌, ℕ, ◌≤◌, true, ◌⊎◌, sym, refl, ap, ◌∙◌, subst, inl, inr, arith}
+use Rattle.std.proofs.Common.{◌≡◌, ℕ, ◌⊎◌, sym, refl, ap, ◌∙◌, subst, inl, inr, arith}
 use Rattle.std.proofs.lemmas.Bool.{or_left, or_right, or_cases}
 use Rattle.record.specs.Layout.{Layout}
 use Rattle.record.specs.Statements.{prepare_by, view_change_by, entry_by}
@@ -8,7 +8,7 @@ use Rattle.record.proofs.Same.{same_decides}
 use Rattle.record.specs.Same.{same}
 use Rattle.register.specs.Sets.{Set, added}
 use Rattle.quorum.specs.Quorums.{said}
-use Rattle.protocol.specs.Setup.{Setup, Many, QuorumSaid}
+use Rattle.protocol.specs.Setup.{Setup, QuorumSaid}
 use Rattle.protocol.specs.Rules.{Said, Started}
 use Rattle.protocol.proofs.Counting.{many_mono}
 use Rattle.protocol.proofs.Invariant.{Bound, Rivals, Once}

@@ -1,16 +1,12 @@
 -- A quorum as a list of its signers, and as a count.
---   Picked n p q  — q different numbers below n that pass the test p
+--   Chosen n p q  — q different numbers below n that pass the test p
 use Rattle.std.proofs.Common.{◌≡◌, ℕ, zero, suc, ◌<◌, ◌≤◌, Bool, true, false, ◌||◌, ◌≢◌, eqb, List, [], ◌∷◌, length, sym, refl, ap, ◌∙◌, subst, inl, inr, arith}
 use Rattle.std.proofs.lemmas.Bool.{both_ways, cases_Bool, or_cases, or_from, ne_eqb, eqb-true}
 use Rattle.std.specs.List.{AllByRecursion}
+use Rattle.std.proofs.ByRecursion.{All-weaker}
 use Rattle.quorum.specs.Quorums.{count}
 use Rattle.protocol.specs.Law.{Different}
 use Rattle.protocol.proofs.Counting.{count_mono, count_none, weigh_ext, count_one_more}
-
-pub all_map :
-    (P Q : ℕ → Type 0) → ((i : ℕ) → P i → Q i) → (is : List ℕ) → AllByRecursion P is → AllByRecursion Q is
-all_map P Q f [] h = tt
-all_map P Q f (i ∷ is) h = (f i h.0, all_map P Q f is h.1)
 
 -- ---- from a list to a count
 
@@ -40,45 +36,45 @@ pub count_of_list :
     (n : ℕ) (p : ℕ → Bool) (is : List ℕ) → Different is → AllByRecursion (λ i. (i < n) × (p i ≡ true)) is
     → length is ≤ count n p
 count_of_list n p is d h =
-    let passes = among_passes (λ i. p i ≡ true) is (all_map _ _ (λ i t. t.1) is h) in
-    let below = all_map _ (λ i. i < n) (λ i t. t.0) is h in
+    let passes = among_passes (λ i. p i ≡ true) is (All-weaker _ _ (λ i t. t.1) is h) in
+    let below = All-weaker _ (λ i. i < n) (λ i t. t.0) is h in
     omega (arith, count_among n is d below, count_mono n (among is) p passes)
 
 -- ---- from a count to a list
 
-pub record Picked (n : ℕ) (p : ℕ → Bool) (q : ℕ) : Type 0 where
+pub record Chosen (n : ℕ) (p : ℕ → Bool) (q : ℕ) : Type 0 where
   pub who : List ℕ
   pub enough : length who ≡ q
   pub different : Different who
   pub each : AllByRecursion (λ i. (i < n) × (p i ≡ true)) who
 
-pick_none : (n : ℕ) (p : ℕ → Bool) → Picked n p 0
-pick_none n p = record { who = []; enough = refl; different = tt; each = tt }
+choose_none : (n : ℕ) (p : ℕ → Bool) → Chosen n p 0
+choose_none n p = record { who = []; enough = refl; different = tt; each = tt }
 
 one_more :
     (n : ℕ) (p : ℕ → Bool) (is : List ℕ) → AllByRecursion (λ i. (i < n) × (p i ≡ true)) is
     → AllByRecursion (λ i. (i < suc n) × (p i ≡ true)) is
-one_more n p is h = all_map _ _ (λ i t. (omega (arith, t.0), t.1)) is h
+one_more n p is h = All-weaker _ _ (λ i t. (omega (arith, t.0), t.1)) is h
 
-pick_under : (n : ℕ) (p : ℕ → Bool) (q : ℕ) → Picked n p q → Picked (suc n) p q
-pick_under n p q l =
+choose_under : (n : ℕ) (p : ℕ → Bool) (q : ℕ) → Chosen n p q → Chosen (suc n) p q
+choose_under n p q l =
     record { who = l.who; enough = l.enough; different = l.different; each = one_more n p l.who l.each }
 
-pick_last : (n : ℕ) (p : ℕ → Bool) (q : ℕ) → p n ≡ true → Picked n p q → Picked (suc n) p (suc q)
-pick_last n p q e l =
+choose_last : (n : ℕ) (p : ℕ → Bool) (q : ℕ) → p n ≡ true → Chosen n p q → Chosen (suc n) p (suc q)
+choose_last n p q e l =
     record {
       who = n ∷ l.who;
       enough = ap suc l.enough;
-      different = (all_map _ _ (λ i t k. omega (arith, t.0)) l.who l.each, l.different);
+      different = (All-weaker _ _ (λ i t k. omega (arith, t.0)) l.who l.each, l.different);
       each = ((omega arith, e), one_more n p l.who l.each);
     }
 
--- of the numbers that are counted, any number can be picked
-pub list_of_count : (n : ℕ) (p : ℕ → Bool) (q : ℕ) → q ≤ count n p → Picked n p q
+-- of the numbers that are counted, any number can be chosen
+pub list_of_count : (n : ℕ) (p : ℕ → Bool) (q : ℕ) → q ≤ count n p → Chosen n p q
 unfolding count
-list_of_count n p zero h = pick_none n p
+list_of_count n p zero h = choose_none n p
 list_of_count zero p (suc q) h = absurd (omega arith)
 list_of_count (suc n) p (suc q) h = elim (cases_Bool (p n)) [
-  | inl e ↦ pick_last n p q e (list_of_count n p q (omega (arith, weigh_ext (p n) true e)))
-  | inr e ↦ pick_under n p (suc q) (list_of_count n p (suc q) (omega (arith, weigh_ext (p n) false e)))
+  | inl e ↦ choose_last n p q e (list_of_count n p q (omega (arith, weigh_ext (p n) true e)))
+  | inr e ↦ choose_under n p (suc q) (list_of_count n p (suc q) (omega (arith, weigh_ext (p n) false e)))
 ]

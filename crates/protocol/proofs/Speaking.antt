@@ -1,5 +1,5 @@
 -- Replies and drops, and statements of which nothing more is asked, keep what holds of the replica that says them.
-use Rattle.std.proofs.Common.{◌≡◌, ℕ, ◌+◌, ◌%◌, ◌^◌, ◌<◌, ◌≤◌, true, false, ◌⊎◌, sym, refl, ap, ◌∙◌, subst, inl, inr, arith, mod-lt, pow_pos}
+use Rattle.std.proofs.Common.{◌≡◌, ℕ, ◌+◌, ◌%◌, ◌^◌, ◌<◌, ◌≤◌, true, false, sym, refl, ap, ◌∙◌, subst, inl, inr, arith, mod-lt, pow_pos}
 use Rattle.std.proofs.lemmas.Bool.{both_ways, cases_eq, cases_lt}
 use native.Mathlib.Nat.{lt_of_lt_of_le}
 use lib.Pow.{pow_mono}
@@ -16,8 +16,8 @@ use Rattle.protocol.specs.Service.{Service, Book, answer_at}
 use Rattle.protocol.specs.Rules.{Said, Works, Upto}
 use Rattle.protocol.proofs.Books.{grown_refl, answer_alike}
 use Rattle.protocol.proofs.Saying.{view_of, slot_of, added_cases, added_other, Grows, added_grows, quorum_grows, started_grows}
-use Rattle.protocol.proofs.Invariant.{Line, Reply, Fact, Past, Rivals, Good}
-use Rattle.protocol.proofs.Later.{Turn, stays, based_later, line_kept, speak_good}
+use Rattle.protocol.proofs.Invariant.{Line, Reply, Fact, Past, Good}
+use Rattle.protocol.proofs.Later.{stays, based_later, line_kept, speak_good}
 
 -- a kind of statement of which nothing more is asked than that it is not of a later view
 pub record Plain (k : ℕ) : Type 0 where
@@ -100,21 +100,21 @@ module _ (u : Setup) (V : Service) (h : Set) (B : Book) (i : ℕ) (r : Replica) 
       (λ y e k. absurd (omega (arith, k.bound)))
 
   pub deliver_good :
-      r.length < 64 → Upto B r.length → h (drop_by i r.view r.length) ≡ false
-      → Good u V (added h (reply_by i r.view r.length r.word (answer_at V B r.word r.length))) B i (delivered r)
-  deliver_good room p d =
-      let x = reply_by i r.view r.length r.word (answer_at V B r.word r.length) in
+      (a : ℕ) → r.length < 64 → Upto B r.length → h (drop_by i r.view r.length) ≡ false → a ≡ answer_at V B r.word r.length
+      → Good u V (added h (reply_by i r.view r.length r.word a)) B i (delivered r)
+  deliver_good a room p d right =
+      let x = reply_by i r.view r.length r.word a in
       let g : Grows h (added h x) = added_grows h x in
       let L = G.line in
       let more : longer r.length ≡ r.length + 1 = longer_is r.length room in
       let wider : 2 ^ r.length ≤ 2 ^ longer r.length = pow_mono (omega arith) in
-      let old = own_drops r.length r.word (answer_at V B r.word r.length) r.view in
+      let old = own_drops r.length r.word a r.view in
       let kept : (l : ℕ) → Said (added h x) (drop_by i r.view l) → l ≤ r.length → bit r.word l ≡ false → QuorumSaid u (added h x) (commit_by 0 r.view l 0) =
       λ l e q f. elim (cases_eq l r.length) [
         | inl t ↦ absurd (both_ways (h (drop_by i r.view r.length)) d (subst (λ (n : ℕ). h (drop_by i r.view n) ≡ true) t (old l e)))
         | inr t ↦ quorum_grows u h (added h x) g (commit_by 0 r.view l 0) (L.kept l (old l e) (omega arith) f)
       ] in
-      replied r.length r.word (answer_at V B r.word r.length) (delivered r) refl refl refl refl (omega arith)
+      replied r.length r.word a (delivered r) refl refl refl refl (omega arith)
       (record {
         order = omega (arith, L.order);
         known = λ l q. p l (omega arith);
@@ -126,7 +126,7 @@ module _ (u : Setup) (V : Service) (h : Set) (B : Book) (i : ℕ) (r : Replica) 
       (record {
         now = λ e. omega arith;
         stamped = p;
-        right = refl;
+        right = right;
         base = r.base;
         base_word = L.based.base_word;
         started = started_grows u h (added h x) g r.view (r.base, L.based.base_word) L.based.started;
@@ -136,11 +136,10 @@ module _ (u : Setup) (V : Service) (h : Set) (B : Book) (i : ℕ) (r : Replica) 
       })
 
   pub reply_good :
-      (s : ℕ) → Upto B s → s < r.length → bit r.word s ≡ false
-      → Good u V (added h (reply_by i r.view s (r.word % 2 ^ s) (answer_at V B r.word s))) B i r
-  reply_good s p q z =
+      (s a : ℕ) → Upto B s → s < r.length → bit r.word s ≡ false → a ≡ answer_at V B r.word s
+      → Good u V (added h (reply_by i r.view s (r.word % 2 ^ s) a)) B i r
+  reply_good s a p q z right =
       let w = r.word % 2 ^ s in
-      let a = answer_at V B r.word s in
       let x = reply_by i r.view s w a in
       let g : Grows h (added h x) = added_grows h x in
       let L = G.line in
@@ -159,7 +158,7 @@ module _ (u : Setup) (V : Service) (h : Set) (B : Book) (i : ℕ) (r : Replica) 
       (record {
         now = λ e. q;
         stamped = p;
-        right = answer_alike V B B r.word w s (λ l k. refl) (λ l k. sym (same l (omega arith)));
+        right = right ∙ answer_alike V B B r.word w s (λ l k. refl) (λ l k. sym (same l (omega arith)));
         base = r.base;
         base_word = L.based.base_word;
         started = started_grows u h (added h x) g r.view (r.base, L.based.base_word) L.based.started;

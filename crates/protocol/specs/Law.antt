@@ -1,5 +1,4 @@
 -- The one-ledger law: nobody who commands up to f of the 3f + 1 replicas, and picks every call and its turn, can settle a slot two ways.
--- It is stated here; nothing proves it yet.
 -- A life is a granted open over an empty register and then any list of calls, granted or refused. After k of its calls:
 --   Different is          — no number stands twice in the list is
 --   Entered y k r         — a granted call of the life y entered the statement r
@@ -11,7 +10,7 @@
 --   Agrees y line s w a   — the line has an operation at slot s and the no-ops w below it, and a is what the single service answers for the slot along the line
 --   OneLedger y           — the law for the life y
 --   OneLedgerAlways       — every life keeps the law, of every bench that opens, with every service and every number of free places
--- The single service is one service, freshly cleared, that takes the slots from 0 upward and is fed the operations stamped in the life; a no-op of the line and an unstamped slot leave it as it is.
+-- The single service is one service, freshly cleared, that takes the slots from 0 upward and is fed the operations stamped in the life; a no-op of the line and an unstamped slot leave it as it is. It answers for a stamped slot that is no no-op of the line, so a certified answer's slot is one.
 use Rattle.std.specs.Prelude.{◌≡◌, ℕ, ◌%◌, ◌^◌, ◌<◌, ◌≤◌, true, false, ◌≢◌, List, [], ◌∷◌, length, take, Some}
 use Rattle.std.specs.List.{AllByRecursion}
 use Rattle.record.specs.Statements.{reply_by, commit_by}
@@ -62,6 +61,10 @@ pub record OneLedger (y : Life) : Type 0 where
   -- what is certified at a step is certified at every later one
   pub answers_last : (j k v s w a : ℕ) → j ≤ k → k ≤ length y.calls → Answered y j v s w a → Answered y k v s w a
   pub no_ops_last : (j k v s : ℕ) → j ≤ k → k ≤ length y.calls → Skipped y j v s → Skipped y k v s
+  -- and an operation that is stamped at a step is stamped at its slot at every later one
+  pub stamped_last :
+      (j k l o : ℕ) → j ≤ k → k ≤ length y.calls → book (state_at y j).stamped l ≡ Some o
+      → book (state_at y k).stamped l ≡ Some o
   -- exactly what is certified at a step is answered yes, put next with a buffer of 16 bytes
   pub answer_yes : (k v s w a : ℕ) → k ≤ length y.calls → Answered y k v s w a → SaysYes y k (AskAnswer 16 v s w a)
   pub yes_answer : (k v s w a : ℕ) → k ≤ length y.calls → SaysYes y k (AskAnswer 16 v s w a) → Answered y k v s w a

@@ -4,6 +4,7 @@
 --   Open b r s         — slot s is open to votes of a replica r: stamped in the book b, from its base through its length
 --   Upto b s           — every slot through s is stamped in the book b
 --   Said h x           — the statement x was said, under the signer that stands in it
+--   Dropped u h v s d  — where the verdict d is no-op, a quorum said DROP for slot s in view v
 --   Started u h v b    — view v starts from the base b, a line's length and word: 0 and 0 for view 0, else a quorum said ENTRY for it
 --   Merging u m v ps b — ps are good picks for the view v over the base b, by what the model m holds
 --   Allowed u V m a    — the rules allow the move a in the model m, for a bench u with the service V
@@ -43,6 +44,9 @@ Upto b s = (l : ℕ) → l ≤ s → Known b l
 abbrev pub Said : Set → Record → Type 0
 Said h x = h x ≡ true
 
+abbrev pub Dropped : Setup → Set → (v s : ℕ) → Verdict → Type 0
+Dropped u h v s d = d ≡ NoOp → QuorumSaid u h (drop_by 0 v s)
+
 abbrev pub Started : Setup → Set → ℕ → ℕ × ℕ → Type 0
 Started u h v b = Certified h (replicas u) (quorum_size u) v b
 
@@ -77,14 +81,14 @@ pub data Allowed (u : Setup) (V : Service) (m : Model) : Move → Type 0 where
   decide :
       (i s : ℕ) (d : Verdict) → Works u i (m.replica i) → Open (stamps m) (m.replica i) s
       → i ≡ leader u (m.replica i).view
-      → (d ≡ NoOp → QuorumSaid u m.held (drop_by 0 (m.replica i).view s))
+      → Dropped u m.held (m.replica i).view s d
       → m.held (decision_by i (m.replica i).view s (verdict_number (other_verdict d))) ≡ false
       → Allowed u V m (says i (m.replica i) (decision_by i (m.replica i).view s (verdict_number d)))
   -- at work, i takes up its leader's decision on an open slot, as it took up no other; a no-op needs a quorum of DROP
   prepare :
       (i s : ℕ) (d : Verdict) → Works u i (m.replica i) → Open (stamps m) (m.replica i) s
       → Said m.held (decision_by (leader u (m.replica i).view) (m.replica i).view s (verdict_number d))
-      → (d ≡ NoOp → QuorumSaid u m.held (drop_by 0 (m.replica i).view s))
+      → Dropped u m.held (m.replica i).view s d
       → m.held (prepare_by i (m.replica i).view s (verdict_number (other_verdict d))) ≡ false
       → Allowed u V m (says i (m.replica i) (prepare_by i (m.replica i).view s (verdict_number d)))
   -- at work, i commits a verdict on an open slot that a quorum prepared

@@ -1,4 +1,4 @@
--- What it is for every call to keep the rules: it makes a move that they allow, or none. Nothing proves yet that every call does.
+-- What it is for every call to keep the rules: it makes a move that they allow, or none.
 --   model x          — a bench's state, without its storage
 --   Step u V x y     — the state x goes to y by a move that the rules allow
 --   CallsKeepRules   — whatever the life, and however long it has gone on, the next call is such a step
