@@ -1,23 +1,21 @@
 -- Each call is a step of the rules.
 use Rattle.std.proofs.Common.{◌≡◌, ℕ, ◌<◌, ◌≤◌, true, false, List, length, is_ok, Ok, sym, ap, subst, arith, rules}
-use Rattle.std.proofs.lemmas.Bool.{leb-true}
 use Rattle.refusal.specs.Grounds.{and_then, unless}
 use Rattle.refusal.specs.declared.Ground.TheVariants.{ViewStartMissing}
-use Rattle.record.specs.Statements.{reply_by, drop_by, view_start_by}
+use Rattle.record.specs.Statements.{reply_by, view_start_by}
 use Rattle.record.specs.declared.Record.{Record}
-use Rattle.quorum.specs.Quorums.{count, said}
 use Rattle.replica.specs.Replicas.{delivered}
 use Rattle.replica.specs.Verdicts.{verdict_number}
 use Rattle.replica.specs.declared.Replica.{Replica}
 use Rattle.replica.specs.declared.Verdict.{Verdict}
 use Rattle.replica.specs.declared.Verdict.TheVariants.{Operation, NoOp}
-use Rattle.protocol.specs.Setup.{Setup, replicas, quorum_size, foreign, leader, QuorumSaid}
+use Rattle.protocol.specs.Setup.{Setup, replicas, quorum_size, foreign, leader}
 use Rattle.merge.specs.Checks.{layout_grounds, merge_grounds}
 use Rattle.merge.specs.Merges.{merge}
 use Rattle.merge.proofs.Checking.{checked_from}
 use Rattle.protocol.specs.Service.{Service, book, answer_at}
 use Rattle.protocol.specs.State.{State, replica_at, state_after}
-use Rattle.protocol.specs.Grounds.{reached, dropped}
+use Rattle.protocol.specs.Grounds.{dropped}
 use Rattle.protocol.specs.Stamp.{stamp}
 use Rattle.protocol.specs.Deliver.{deliver}
 use Rattle.protocol.specs.Find.{find}
@@ -51,12 +49,9 @@ module _ (u : Setup) (V : Service) (x : State) (S : Sound u V x) where
   through : (s : ℕ) → s < length x.stamped → Upto (stamps (model x)) s
   through s h l le = known_below x.stamped l (omega arith)
 
-  said_by : (r : Record) → reached u x r ≡ true → QuorumSaid u x.held r
-  said_by r e = leb-true (quorum_size u) (count (replicas u) (said x.held r)) e
-
   drops_by : (v s : ℕ) (d : Verdict) → dropped u x v s d ≡ true → Dropped u x.held v s d
   drops_by v s Operation e n = let z : ◌≡◌ {A = ℕ} 0 1 = ap verdict_number n in absurd (omega (arith, z))
-  drops_by v s NoOp e n = said_by (drop_by 0 v s) e
+  drops_by v s NoOp e n = search rules
 
   pub stamp_step : (op : ℕ) → Kept u V x (state_after x (stamp x op))
   stamp_step op = stamps_one u V x S (stamp x op).grounds op (λ e. moves.stamp op (search rules))

@@ -18,4 +18,3 @@ pub mod Opening
 pub mod Entries
 pub mod Lives
 pub mod Ledger
-pub mod Example

@@ -22,7 +22,6 @@ pub mod NoOp
 pub mod Call
 pub mod Life
 pub mod Law
-pub mod Example
 pub mod Model
 pub mod Rules
 pub mod Steps

@@ -6,14 +6,10 @@
 
 ghost use Rattle.protocol.specs.Law.{OneLedgerAlways};
 ghost use Rattle.protocol.specs.Steps.{CallsKeepRules};
-ghost use Rattle.protocol.specs.Example.{ExampleGoes, ExampleLines, ExampleCertifies};
 
 /// The law, and what it stands on.
-#[tactic(auto, using(crate::proofs::Ledger::one_ledger_always, crate::proofs::Ledger::calls_keep_rules, crate::proofs::Example::example_goes, crate::proofs::Example::example_lines, crate::proofs::Example::example_certifies))]
+#[tactic(auto, using(crate::proofs::Ledger::one_ledger_always, crate::proofs::Ledger::calls_keep_rules))]
 pub fn one_ledger()
     ensures every_life_keeps_one_ledger { OneLedgerAlways }
     ensures every_call_keeps_the_rules { CallsKeepRules }
-    ensures example_has_its_outcomes { ExampleGoes }
-    ensures example_has_its_lines { ExampleLines }
-    ensures example_certifies { ExampleCertifies }
 {}

@@ -2,14 +2,14 @@
 --   totals            — a service: it answers the sum of what it was fed and the operation
 --   four              — a bench of four replicas, of which the last is foreign
 --   four_opens        — its open is granted over an empty register
---   change i          — the VIEW-CHANGE that replica i says in the story
+--   change i          — the VIEW-CHANGE that replica i says in the example
 --   picks             — those of replicas 0, 1 and 2
---   story             — the calls, each with what comes of it
+--   table             — the calls, each with what comes of it
 --   example           — the life of these calls
 --   example_outcomes  — what comes of each of its calls
---   ExampleGoes       — these are its outcomes
---   ExampleLines      — after 59 calls, right after they entered view 1, replicas 0, 1 and 2 have the line of length 2 with a no-op at slot 1
---   ExampleCertifies  — the answers for slots 0 and 2 and the no-op at slot 1 are certified, as the law says it
+--   OutcomesHold       — these are its outcomes
+--   LinesHold      — after 59 calls, right after they entered view 1, replicas 0, 1 and 2 have the line of length 2 with a no-op at slot 1
+--   Certifies  — the answers for slots 0 and 2 and the no-op at slot 1 are certified, as the law says it
 -- In view 0 slot 0 is answered and slot 1 skipped; in view 1 slot 2 is answered, past the no-op.
 -- The register has as many places as different statements are said, so at the end it is full.
 -- Every ground is met but the three of the open, which is granted, and that of the 64 slots.
@@ -46,8 +46,8 @@ change i = view_change_by i 1 0 2 2
 abbrev pub picks : List Record
 picks = change 0 ∷ change 1 ∷ change 2 ∷ []
 
-abbrev pub story : List (Call × Outcome)
-story =
+abbrev pub table : List (Call × Outcome)
+table =
     -- three operations are stamped
     (Stamp 5, Granted)
     ∷ (Stamp 6, Granted)
@@ -125,21 +125,21 @@ story =
 
 abbrev pub example : Life
 example =
-    record { bench = four; service = totals; places = 26; calls = map (λ p. p.0) story; opens = four_opens }
+    record { bench = four; service = totals; places = 26; calls = map (λ p. p.0) table; opens = four_opens }
 
 abbrev pub example_outcomes : List Outcome
-example_outcomes = map (λ p. p.1) story
+example_outcomes = map (λ p. p.1) table
 
-abbrev pub ExampleGoes : Type 0
-ExampleGoes = outcomes_of example ≡ example_outcomes
+abbrev pub OutcomesHold : Type 0
+OutcomesHold = outcomes_of example ≡ example_outcomes
 
-abbrev pub ExampleLines : Type 0
-ExampleLines =
+abbrev pub LinesHold : Type 0
+LinesHold =
     (replica_at (state_at example 59) 0 ≡ entered 1 2 2)
     × (replica_at (state_at example 59) 1 ≡ entered 1 2 2)
     × (replica_at (state_at example 59) 2 ≡ entered 1 2 2)
 
-pub record ExampleCertifies : Type 0 where
+pub record Certifies : Type 0 where
   pub answered : Answered example 68 0 0 0 5
   pub skipped : Skipped example 68 0 1
   pub answered_past : Answered example 68 1 2 2 12

@@ -14,15 +14,15 @@ use Rattle.protocol.specs.State.{State, opened}
 use Rattle.protocol.specs.Call.{Call, meaning}
 use Rattle.protocol.specs.Life.{Enters}
 use Rattle.protocol.specs.Law.{Signers}
-use Rattle.protocol.specs.Example.{four, totals, example, ExampleGoes, ExampleLines, ExampleCertifies}
+use Rattle.example.specs.WrittenOut.{four, totals, example, OutcomesHold, LinesHold, Certifies}
 
-pub example_goes : ExampleGoes
+pub outcomes_hold : OutcomesHold
 unfolding count_leading_zeros keeps_layout same count bit with_bit one_past prepared_below book fed answer_at
-example_goes = refl
+outcomes_hold = refl
 
-pub example_lines : ExampleLines
+pub lines_hold : LinesHold
 unfolding count_leading_zeros keeps_layout same count bit with_bit one_past prepared_below book fed answer_at
-example_lines = (refl, refl, refl)
+lines_hold = (refl, refl, refl)
 
 module _ (u : Setup) (V : Service) where
   -- the call at the place j of cs enters r
@@ -55,9 +55,9 @@ said_by_three a b c k r d e f =
       );
     }
 
-pub example_certifies : ExampleCertifies
+pub certifies : Certifies
 unfolding count_leading_zeros keeps_layout same count bit with_bit one_past prepared_below book fed answer_at
-example_certifies =
+certifies =
     record {
       answered = said_by_three 6 7 12 68 (reply_by 0 0 0 0 5) refl refl refl;
       skipped = said_by_three 30 31 33 68 (commit_by 0 0 1 1) refl refl refl;
