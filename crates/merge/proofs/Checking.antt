@@ -1,18 +1,16 @@
 -- What a grant tells of the picks.
 use Rattle.std.proofs.Common.{◌≡◌, ℕ, zero, suc, ◌+◌, ◌<◌, Bool, true, false, eqb, List, [], ◌∷◌, length, get_or, take, is_ok, Ok, Err, refl, subst, inl, inr, arith}
-use Rattle.std.specs.List.{AllByRecursion}
 use Rattle.std.proofs.ByRecursion.{all_from_every}
 use Rattle.std.proofs.lemmas.Bool.{or_parts, eqb-true, eqb-false, cases_eq, both_ways}
 use Rattle.std.proofs.lemmas.Bool.Decides.{nat_tests}
 use Rattle.refusal.specs.Grounds.{Answer, unless, and_then}
 use Rattle.refusal.specs.declared.Ground.{Ground}
-use Rattle.refusal.specs.declared.Ground.TheVariants.{Layout, Picks, BaseNotCertified, StatementsMissing}
-use Rattle.record.specs.Layout.{keeps_layout}
+use Rattle.refusal.specs.declared.Ground.TheVariants.{Picks, BaseNotCertified, StatementsMissing}
 use Rattle.record.specs.declared.Record.{Record}
 use Rattle.register.specs.Sets.{Set}
 use Rattle.merge.specs.Merges.{top}
 use Rattle.merge.proofs.Prepares.{prepared_decides}
-use Rattle.merge.specs.Checks.{first_fault, layout_grounds, signs, fits, prepared, backed, certified, pick_grounds, base_grounds, backing_grounds, merge_grounds, Certified, Different, Picked, Checked}
+use Rattle.merge.specs.Checks.{first_fault, signs, fits, prepared, backed, certified, pick_grounds, base_grounds, backing_grounds, merge_grounds, Certified, Different, Picked, Checked}
 
 unless_granted : (t : Bool) (g : Ground) (p : ℕ) (a : Answer) → is_ok (unless t g p a) ≡ true → (t ≡ true) × (is_ok a ≡ true)
 unless_granted true g p a h = (refl, h)
@@ -33,9 +31,6 @@ passes_at g t k (p ∷ ps) h (suc i) j e d l =
 
 each_passes : (g : Ground) (t : ℕ → Record → Bool) (ps : List Record) → is_ok (first_fault g t 0 ps) ≡ true → (i : ℕ) (d : Record) → i < length ps → t i (get_or ps i d) ≡ true
 each_passes g t ps h i = passes_at g t 0 ps h i i (omega arith)
-
-pub layouts_from : (ps : List Record) → is_ok (layout_grounds ps) ≡ true → AllByRecursion (λ p. keeps_layout p ≡ true) ps
-layouts_from ps h = all_from_every _ ps (λ i d _ l. each_passes Layout (λ _ p. keeps_layout p) ps h i d l)
 
 -- picks of which none is signed by the signer of one before it
 different_from : (ps : List Record) → ((i : ℕ) (d : Record) → i < length ps → signs (take i ps) (get_or ps i d).signer ≡ false) → Different ps

@@ -74,14 +74,6 @@ member u few a p =
 pub many_mono : (u : Setup) (a b : ℕ → Bool) → ((i : ℕ) → a i ≡ true → b i ≡ true) → Many u a → Many u b
 many_mono u a b h p = omega (arith, count_mono (replicas u) a b h)
 
-all_count : (n : ℕ) → count n (λ _. true) ≡ n
-unfolding count
-all_count zero = refl
-all_count (suc n) = omega (arith, all_count n)
-
-pub everyone : (u : Setup) → Many u (λ _. true)
-everyone u = omega (arith, all_count (replicas u))
-
 pub count_none : (n : ℕ) → count n (λ _. false) ≡ 0
 unfolding count
 count_none zero = refl

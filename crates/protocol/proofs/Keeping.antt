@@ -14,7 +14,7 @@ use Rattle.merge.specs.Merges.{merge}
 use Rattle.protocol.specs.Setup.{Setup, foreign, Few}
 use Rattle.protocol.specs.Service.{Service, Known}
 use Rattle.protocol.specs.Model.{Model, stamps, start, placed, Move, stamping, forges, becomes, says, apply, Entry}
-use Rattle.protocol.specs.Rules.{Allowed, Said, rest, stamp, deliver, find, drop, decide, prepare, commit, settle, reply, leave, forge, lead, begin, enter}
+use Rattle.protocol.specs.Rules.{Allowed, Said, Started, rest, stamp, deliver, find, drop, decide, prepare, commit, settle, reply, leave, forge, lead, begin, enter}
 use Rattle.protocol.proofs.Books.{book_push, grown_refl, stamped_below}
 use Rattle.protocol.proofs.Counting.{member}
 use Rattle.protocol.proofs.Saying.{added_cases, added_grows}
@@ -153,7 +153,7 @@ module _ (u : Setup) (V : Service) (m : Model) (I : Inv u V m) where
       (begin_good u V m.held (stamps m) i (m.replica i) (I.good i w.honest) (merge b ps).0 (merge b ps).1
       w.leaving k (merged u V m I (m.replica i).target ps b C (omega (arith, w.leaving))))
   allowed_inv a (enter i t n w f p q Q) v =
-      let E = inr (omega arith, Q) in
+      let E : Started u m.held t (n, w) = inr (omega arith, Q) in
       let b = started_bounds u V m I t (n, w) E in
       let r = member u I.few (said m.held (entry_by 0 t n w)) Q in
       becomes_inv i (entered t n w)

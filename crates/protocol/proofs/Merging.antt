@@ -4,8 +4,6 @@ use Rattle.std.proofs.ByRecursion.{All-weaker, All-map}
 use Rattle.std.proofs.lemmas.Bool.{both_ways, cases_lt, cases_Bool}
 use Rattle.std.proofs.lemmas.List.{length-map}
 use Rattle.std.specs.List.{AllByRecursion}
-use native.Mathlib.Nat.{lt_of_lt_of_le}
-use lib.Pow.{pow_mono}
 use Rattle.record.specs.Layout.{Layout}
 use Rattle.record.specs.Statements.{prepare_by, view_change_by, entry_by}
 use Rattle.record.specs.declared.Record.{Record}
@@ -15,7 +13,7 @@ use Rattle.replica.proofs.Words.{bit_above}
 use Rattle.merge.specs.Merges.{top, merged_length, merged_word, merge}
 use Rattle.merge.specs.Checks as checks
 use Rattle.merge.specs.Checks.{Picked}
-use Rattle.merge.proofs.Lines.{top_over, top_below, length_base, length_picks, length_least, word_below, word_base, word_picks, word_from}
+use Rattle.merge.proofs.Lines.{top_over, top_below, length_base, length_picks, length_least, word_base, word_picks, word_from}
 use Rattle.protocol.specs.Law.{Different}
 use Rattle.protocol.specs.Setup.{Setup, replicas, quorum_size, QuorumSaid}
 use Rattle.protocol.specs.Service.{Service, Known}
@@ -74,13 +72,6 @@ module _ (u : Setup) (V : Service) (m : Model) (I : Inv u V m) where
           record { picked = a.0; layout = I.layout q a.0.in_register; under = c.0; within = d.0; bits = e.0 },
           picks qs a.1 c.1 d.1 e.1,
         )
-
-    -- the merged word keeps the merged length
-    pub merge_small : (merge b ps).1 < 2 ^ (merge b ps).0
-    unfolding n w
-    merge_small =
-        word_below (top ps) b.1 n ps (lt_of_lt_of_le (started_bounds (top ps) b C.base).1 (pow_mono (length_base (top ps) b.0 ps)))
-        (All-weaker _ _ (λ p P e. lt_of_lt_of_le P.layout.word (pow_mono (P.within e))) ps each)
 
     -- a no-op of the merge is one of the base, or a quorum prepared it
     from : (l : ℕ) → bit w l ≡ true → (bit b.1 l ≡ true) ⊎ QuorumSaid u m.held (prepare_by 0 (top ps) l 1)

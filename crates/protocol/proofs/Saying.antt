@@ -1,6 +1,6 @@
 -- What is said after one more statement, and what stays true of all that was said.
-use Rattle.std.proofs.Common.{◌≡◌, ℕ, ◌⊎◌, sym, refl, ap, ◌∙◌, subst, inl, inr, arith}
-use Rattle.std.proofs.lemmas.Bool.{or_left, or_right, or_cases}
+use Rattle.std.proofs.Common.{◌≡◌, ℕ, ◌⊎◌, sym, ap, ◌∙◌, subst, inl, inr, arith}
+use Rattle.std.proofs.lemmas.Bool.{or_left, or_cases}
 use Rattle.record.specs.Layout.{Layout}
 use Rattle.record.specs.Statements.{prepare_by, view_change_by, entry_by}
 use Rattle.record.specs.declared.Record.{Record}
@@ -36,9 +36,6 @@ Grows h h' = (y : Record) → Said h y → Said h' y
 
 pub added_grows : (h : Set) (x : Record) → Grows h (added h x)
 added_grows h x y e = or_left (h y) (same x y) e
-
-pub added_has : (h : Set) (x : Record) → Said (added h x) x
-added_has h x = or_right (h x) (same x x) ((same_decides x x).1 refl)
 
 pub quorum_grows : (u : Setup) (h h' : Set) → Grows h h' → (x : Record) → QuorumSaid u h x → QuorumSaid u h' x
 quorum_grows u h h' g x q = many_mono u (said h x) (said h' x) (λ i. g _) q
