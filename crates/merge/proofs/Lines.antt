@@ -1,7 +1,7 @@
 -- Laws of the merge.
-use Rattle.std.proofs.Common.{◌≡◌, ℕ, ◌<◌, ◌≤◌, max, Bool, true, false, cond, eqb, ◌⊎◌, List, [], ◌∷◌, sym, refl, ap, ◌∙◌, subst, ap₂, inl, inr, arith}
+use Rattle.std.proofs.Common.{◌≡◌, ℕ, ◌^◌, ◌<◌, ◌≤◌, max, Bool, true, false, cond, eqb, ◌⊎◌, List, [], ◌∷◌, sym, refl, ap, ◌∙◌, subst, ap₂, inl, inr, arith}
 use mathlib.Core.List.{Perm}
-use lib.Bits.{bit_or}
+use lib.Bits.{bit_or, or_lt}
 use Rattle.std.specs.List.{AllByRecursion}
 use Rattle.std.proofs.ByRecursion.{All-weaker}
 use Rattle.std.proofs.lemmas.Bool.{eqb-true, eq-eqb, or_left, or_right, or_cases, cond_both}
@@ -53,6 +53,12 @@ length_least t n k [] h f = h
 length_least t n k (p ∷ ps) h f =
     let rest = length_least t n k ps h f.1 in
     cond_both (eqb p.last t) _ _ (λ m. m ≤ k) (λ e. omega (arith, rest, f.0 (eqb-true p.last t e))) (λ _. rest)
+
+pub word_below : (t w k : ℕ) (ps : List Record) → w < 2 ^ k → AllByRecursion (λ p. p.last ≡ t → p.word < 2 ^ k) ps → merged_word t w ps < 2 ^ k
+word_below t w k [] h f = h
+word_below t w k (p ∷ ps) h f =
+    let rest = word_below t w k ps h f.1 in
+    cond_both (eqb p.last t) _ _ (λ m. m < 2 ^ k) (λ e. or_lt k p.word (merged_word t w ps) (f.0 (eqb-true p.last t e)) rest) (λ _. rest)
 
 word_step : (b : Bool) (l v w : ℕ) → bit w l ≡ true → bit (cond b (bit_or v w) w) l ≡ true
 word_step b l v w h =

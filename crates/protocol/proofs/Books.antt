@@ -31,6 +31,13 @@ stamped_below ops l o e =
           absurd (omega arith)
     ]
 
+-- where every slot below n has an operation, n is at most the number of the stamped ones
+pub all_stamped : (ops : List ℕ) (n : ℕ) → ((l : ℕ) → l < n → Known (book ops) l) → n ≤ length ops
+all_stamped ops n h = elim (cases_lt (length ops) n) [
+  | inl k ↦ let o = h (length ops) k in absurd (omega (arith, stamped_below ops (length ops) o.0 o.1))
+  | inr k ↦ k
+]
+
 pub book_push : (ops : List ℕ) (op : ℕ) → Grown (book ops) (book (ops ++ op ∷ []))
 book_push ops op l o e =
     let h = stamped_below ops l o e in

@@ -109,7 +109,7 @@ module _ (u : Setup) (V : Service) (m : Model) (I : Inv u V m) where
             (silent_other x m.held j (λ t. n (sym e ∙ t))) (I.good j f));
       }
 
-  slot_low : (l : ℕ) → Known (stamps m) l → l < 64
+  pub slot_low : (l : ℕ) → Known (stamps m) l → l < 64
   slot_low l k = omega (arith, stamped_below m.stamped l k.0 k.1, I.short)
 
   pub allowed_inv : (a : Move) → Allowed u V m a → Entry a → Inv u V (apply m a)

@@ -12,6 +12,7 @@ pub mod Agreement
 pub mod Witness
 pub mod Merging
 pub mod Keeping
+pub mod Layouts
 pub mod Stepping
 pub mod Calls
 pub mod Opening

@@ -1,5 +1,5 @@
 -- The merge of good picks is a merge as the invariant has it.
-use Rattle.std.proofs.Common.{◌≡◌, ℕ, ◌^◌, ◌<◌, ◌≤◌, true, ◌⊎◌, List, [], ◌∷◌, length, map, sym, ap, ◌∙◌, subst, inl, inr, arith, pow_pos}
+use Rattle.std.proofs.Common.{◌≡◌, ℕ, ◌^◌, ◌<◌, ◌≤◌, true, ◌⊎◌, List, [], ◌∷◌, length, map, sym, ap, ◌∙◌, subst, inl, inr, arith, pow_pos, pow_mono, lt_of_lt_of_le}
 use Rattle.std.proofs.ByRecursion.{All-weaker, All-map}
 use Rattle.std.proofs.lemmas.Bool.{both_ways, cases_lt, cases_Bool}
 use Rattle.std.proofs.lemmas.List.{length-map}
@@ -13,13 +13,13 @@ use Rattle.replica.proofs.Words.{bit_above}
 use Rattle.merge.specs.Merges.{top, merged_length, merged_word, merge}
 use Rattle.merge.specs.Checks as checks
 use Rattle.merge.specs.Checks.{Picked}
-use Rattle.merge.proofs.Lines.{top_over, top_below, length_base, length_picks, length_least, word_base, word_picks, word_from}
+use Rattle.merge.proofs.Lines.{top_over, top_below, length_base, length_picks, length_least, word_below, word_base, word_picks, word_from}
 use Rattle.protocol.specs.Law.{Different}
 use Rattle.protocol.specs.Setup.{Setup, replicas, quorum_size, QuorumSaid}
 use Rattle.protocol.specs.Service.{Service, Known}
 use Rattle.protocol.specs.Model.{Model, stamps}
 use Rattle.protocol.specs.Rules.{Said, Started, Merging}
-use Rattle.protocol.proofs.Books.{known_below, stamped_below}
+use Rattle.protocol.proofs.Books.{known_below, all_stamped}
 use Rattle.protocol.proofs.Counting.{member}
 use Rattle.protocol.proofs.Signing.{among, among_passes, count_among}
 use Rattle.protocol.proofs.Saying.{as_view_change}
@@ -73,6 +73,13 @@ module _ (u : Setup) (V : Service) (m : Model) (I : Inv u V m) where
           picks qs a.1 c.1 d.1 e.1,
         )
 
+    -- the merged word keeps the merged length
+    pub merge_small : (merge b ps).1 < 2 ^ (merge b ps).0
+    unfolding n w
+    merge_small =
+        word_below (top ps) b.1 n ps (lt_of_lt_of_le (started_bounds (top ps) b C.base).1 (pow_mono (length_base (top ps) b.0 ps)))
+        (All-weaker _ _ (λ p P e. lt_of_lt_of_le P.layout.word (pow_mono (P.within e))) ps each)
+
     -- a no-op of the merge is one of the base, or a quorum prepared it
     from : (l : ℕ) → bit w l ≡ true → (bit b.1 l ≡ true) ⊎ QuorumSaid u m.held (prepare_by 0 (top ps) l 1)
     unfolding w
@@ -98,20 +105,12 @@ module _ (u : Setup) (V : Service) (m : Model) (I : Inv u V m) where
     ]
 
     -- all slots of the merge are stamped
-    known : (l : ℕ) → l < n → Known (stamps m) l
+    pub merge_stamped : (merge b ps).0 ≤ length m.stamped
     unfolding n
-    known l q = known_below m.stamped l (omega (arith, q, all))
+    merge_stamped = length_least (top ps) b.0 (length m.stamped) ps base (All-weaker _ _ (λ p P. P.picked.reach) ps each)
       where
         base : b.0 ≤ length m.stamped
-        base = elim (cases_lt (length m.stamped) b.0) [
-          | inl k ↦
-              let o = (started_bounds (top ps) b C.base).0 (length m.stamped) k in
-              absurd (omega (arith, stamped_below m.stamped (length m.stamped) o.0 o.1))
-          | inr k ↦ k
-        ]
-
-        all : n ≤ length m.stamped
-        all = length_least (top ps) b.0 (length m.stamped) ps base (All-weaker _ _ (λ p P. P.picked.reach) ps each)
+        base = all_stamped m.stamped b.0 (started_bounds (top ps) b C.base).0
 
     pledge : (p : Record) → Pick u m v (top ps) n w p → Pledge m.held v (top ps) n w p.signer
     pledge p P =
@@ -143,7 +142,7 @@ module _ (u : Setup) (V : Service) (m : Model) (I : Inv u V m) where
           older = top_below v ps pos (All-weaker _ _ (λ p P. omega (arith, P.layout.last P.picked.kind, P.picked.view)) ps each);
           started = C.base;
           order = length_base (top ps) b.0 ps;
-          known = known;
+          known = λ l q. known_below m.stamped l (omega (arith, merge_stamped));
           below = below_word;
           above = λ l q t. elim (from l t) [
             | inl y ↦ absurd (both_ways (bit b.1 l) (bit_above b.0 l b.1 (started_bounds (top ps) b C.base).1 q) y)

@@ -1,8 +1,6 @@
 -- Prepares, commits and settlements keep what holds of the replica that makes them.
-use Rattle.std.proofs.Common.{◌≡◌, ℕ, ◌+◌, ◌<◌, ◌≤◌, true, false, cond, ◌⊎◌, eqb, sym, refl, ap, ◌∙◌, subst, inl, inr, arith}
+use Rattle.std.proofs.Common.{◌≡◌, ℕ, ◌+◌, ◌<◌, ◌≤◌, true, false, cond, ◌⊎◌, eqb, sym, refl, ap, ◌∙◌, subst, inl, inr, arith, lt_of_lt_of_le, pow_mono}
 use Rattle.std.proofs.lemmas.Bool.{both_ways, cases_eq, cond_both, eqb-true, eqb-false}
-use native.Mathlib.Nat.{lt_of_lt_of_le}
-use lib.Pow.{pow_mono}
 use Rattle.record.specs.Layout.{Layout}
 use Rattle.record.specs.Statements.{reply_by, drop_by, prepare_by, commit_by}
 use Rattle.record.specs.declared.Record.{Record}

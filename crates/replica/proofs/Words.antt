@@ -253,3 +253,7 @@ one_past_over w l h e = elim (cases_lt l (one_past w)) [
   | inl p ↦ p
   | inr p ↦ absurd (both_ways (bit w l) (bit_above (one_past w) l w (one_past_under w h) p) e)
 ]
+
+pub one_past_most : (w : ℕ) → one_past w ≤ 64
+unfolding one_past
+one_past_most w = omega arith
