@@ -14,7 +14,7 @@ use Rattle.merge.specs.Checks.{layout_grounds, merge_grounds}
 use Rattle.merge.specs.Merges.{merge}
 use Rattle.merge.proofs.Checking.{checked_from}
 use Rattle.protocol.specs.Service.{Service, book, answer_at}
-use Rattle.protocol.specs.State.{State, replica_at, state_after}
+use Rattle.protocol.specs.State.{State, replica_at}
 use Rattle.protocol.specs.Grounds.{dropped}
 use Rattle.protocol.specs.Stamp.{stamp}
 use Rattle.protocol.specs.Deliver.{deliver}
@@ -30,13 +30,15 @@ use Rattle.protocol.specs.Forge.{forge}
 use Rattle.protocol.specs.Lead.{lead}
 use Rattle.protocol.specs.Start.{start}
 use Rattle.protocol.specs.Enter.{enter}
-use Rattle.protocol.specs.Call.{Call, Stamp, Deliver, Find, Drop, Decide, Prepare, Commit, Settle, Reply, Leave, Forge, Lead, Start, Enter, AskAnswer, AskNoOp, meaning}
+use Rattle.protocol.specs.Answer.{answer_grounds, answer_certified}
+use Rattle.protocol.specs.NoOp.{no_op_grounds, no_op_certified}
+use Rattle.protocol.specs.Call.{Call, Stamp, Deliver, Find, Drop, Decide, Prepare, Commit, Settle, Reply, Leave, Forge, Lead, Start, Enter, AskAnswer, AskNoOp, acting, meaning}
 use Rattle.protocol.specs.Model.{stamps, says}
 use Rattle.protocol.specs.Rules as moves
 use Rattle.protocol.specs.Rules.{Allowed, Works, Open, Upto, Dropped}
 use Rattle.protocol.specs.Steps.{model}
 use Rattle.protocol.proofs.Books.{known_below}
-use Rattle.protocol.proofs.Stepping.{Sound, Kept, stays, then_left, then_right, speaks, speaks_only, forged, turns, stamps_one}
+use Rattle.protocol.proofs.Stepping.{Sound, Kept, asks, then_left, then_right, speaks, speaks_only, forged, turns, stamps_one}
 
 module _ (u : Setup) (V : Service) (x : State) (S : Sound u V x) where
   -- a replica below n has a place
@@ -53,7 +55,7 @@ module _ (u : Setup) (V : Service) (x : State) (S : Sound u V x) where
   drops_by v s Operation e n = let z : ◌≡◌ {A = ℕ} 0 1 = ap verdict_number n in absurd (omega (arith, z))
   drops_by v s NoOp e n = search rules
 
-  pub stamp_step : (op : ℕ) → Kept u V x (state_after x (stamp x op))
+  pub stamp_step : (op : ℕ) → Kept u V x (acting x (stamp x op))
   stamp_step op = stamps_one u V x S (stamp x op).grounds op (λ e. moves.stamp op (search rules))
 
   -- the slot that is delivered is the length of the line
@@ -74,35 +76,39 @@ module _ (u : Setup) (V : Service) (x : State) (S : Sound u V x) where
       at_length : At r.length
       at_length e = moves.deliver i (works i (search rules) (search rules)) (through r.length (search rules)) (search rules)
 
-  pub deliver_step : (i s : ℕ) → Kept u V x (state_after x (deliver u V x i s))
+  pub deliver_step : (i s : ℕ) → Kept u V x (acting x (deliver u V x i s))
   deliver_step i s =
       speaks u V x S (deliver u V x i s).grounds i _ _ (λ e. (low i (search rules), delivers i s (search rules) e))
 
-  pub find_step : (i : ℕ) → Kept u V x (state_after x (find u x i))
+  pub find_step : (i : ℕ) → Kept u V x (acting x (find u x i))
   find_step i =
       speaks_only u V x S (find u x i).grounds i _
-      (λ e. moves.find i (works i (search rules) (search rules)) (search rules) (known_below x.stamped _ (search rules)))
+      (λ e. (low i (search rules), moves.find i (works i (search rules) (search rules)) (search rules) (known_below x.stamped _ (search rules))))
 
-  pub drop_step : (i : ℕ) → Kept u V x (state_after x (drop u x i))
+  pub drop_step : (i : ℕ) → Kept u V x (acting x (drop u x i))
   drop_step i =
       speaks_only u V x S (drop u x i).grounds i _
-      (λ e. moves.drop i (works i (search rules) (search rules)) (search rules) (known_below x.stamped _ (search rules)))
+      (λ e. (low i (search rules), moves.drop i (works i (search rules) (search rules)) (search rules) (known_below x.stamped _ (search rules))))
 
-  pub decide_step : (i s : ℕ) (d : Verdict) → Kept u V x (state_after x (decide u x i s d))
+  pub decide_step : (i s : ℕ) (d : Verdict) → Kept u V x (acting x (decide u x i s d))
   decide_step i s d =
       speaks_only u V x S (decide u x i s d).grounds i _
-      (λ e.
-      moves.decide i s d (works i (search rules) (search rules)) (record { from = search rules; to = search rules; known = known_below x.stamped s (search rules) })
-      (search rules) (drops_by _ s d (search rules)) (search rules))
+      (λ e. (
+        low i (search rules),
+        moves.decide i s d (works i (search rules) (search rules)) (record { from = search rules; to = search rules; known = known_below x.stamped s (search rules) })
+            (search rules) (drops_by _ s d (search rules)) (search rules),
+      ))
 
-  pub prepare_step : (i s : ℕ) (d : Verdict) → Kept u V x (state_after x (prepare u x i s d))
+  pub prepare_step : (i s : ℕ) (d : Verdict) → Kept u V x (acting x (prepare u x i s d))
   prepare_step i s d =
       speaks_only u V x S (prepare u x i s d).grounds i _
-      (λ e.
-      moves.prepare i s d (works i (search rules) (search rules)) (record { from = search rules; to = search rules; known = known_below x.stamped s (search rules) })
-      (search rules) (drops_by _ s d (search rules)) (search rules))
+      (λ e. (
+        low i (search rules),
+        moves.prepare i s d (works i (search rules) (search rules)) (record { from = search rules; to = search rules; known = known_below x.stamped s (search rules) })
+            (search rules) (drops_by _ s d (search rules)) (search rules),
+      ))
 
-  pub commit_step : (i s : ℕ) (d : Verdict) → Kept u V x (state_after x (commit u x i s d))
+  pub commit_step : (i s : ℕ) (d : Verdict) → Kept u V x (acting x (commit u x i s d))
   commit_step i s d =
       speaks u V x S (commit u x i s d).grounds i _ _
       (λ e. (
@@ -111,7 +117,7 @@ module _ (u : Setup) (V : Service) (x : State) (S : Sound u V x) where
             (search rules),
       ))
 
-  pub settle_step : (i s : ℕ) (d : Verdict) → Kept u V x (state_after x (settle u x i s d))
+  pub settle_step : (i s : ℕ) (d : Verdict) → Kept u V x (acting x (settle u x i s d))
   settle_step i s d =
       turns u V x S (settle u x i s d).grounds i _
       (λ e. (
@@ -120,31 +126,31 @@ module _ (u : Setup) (V : Service) (x : State) (S : Sound u V x) where
             (search rules),
       ))
 
-  pub reply_step : (i s : ℕ) → Kept u V x (state_after x (reply u V x i s))
+  pub reply_step : (i s : ℕ) → Kept u V x (acting x (reply u V x i s))
   reply_step i s =
       speaks_only u V x S (reply u V x i s).grounds i _
-      (λ e. moves.reply i s (works i (search rules) (search rules)) (through s (search rules)) (search rules) (search rules))
+      (λ e. (low i (search rules), moves.reply i s (works i (search rules) (search rules)) (through s (search rules)) (search rules) (search rules)))
 
-  pub leave_step : (i t : ℕ) → Kept u V x (state_after x (leave u x i t))
+  pub leave_step : (i t : ℕ) → Kept u V x (acting x (leave u x i t))
   leave_step i t =
       speaks u V x S (leave u x i t).grounds i _ _ (λ e. (low i (search rules), moves.leave i t (search rules) (search rules) (search rules)))
 
-  pub forge_step : (r : Record) → Kept u V x (state_after x (forge u x r))
-  forge_step r = forged u V x S (forge u x r).grounds r (λ e. moves.forge r (search rules))
+  pub forge_step : (r : Record) → Kept u V x (acting x (forge u x r))
+  forge_step r = forged u V x S (forge u x r).grounds r (λ e. (search rules, moves.forge r (search rules)))
 
-  pub enter_step : (i n w v : ℕ) → Kept u V x (state_after x (enter u x i n w v))
+  pub enter_step : (i n w v : ℕ) → Kept u V x (acting x (enter u x i n w v))
   enter_step i n w v =
       turns u V x S (enter u x i n w v).grounds i _
       (λ e. (low i (search rules), moves.enter i v n w (search rules) (search rules) (search rules) (search rules)))
 
-  pub lead_step : (i : ℕ) (ps : List Record) (n w : ℕ) → Kept u V x (state_after x (lead u x i ps n w))
+  pub lead_step : (i : ℕ) (ps : List Record) (n w : ℕ) → Kept u V x (acting x (lead u x i ps n w))
   lead_step i ps n w =
       speaks_only u V x S (lead u x i ps n w).grounds i _
       (λ e.
       let rest = then_right (layout_grounds ps) _ e in
-      moves.lead i ps (n, w) (record { honest = search rules; leaving = search rules }) (search rules) (checked_from _ _ _ _ _ ps (n, w) (search rules)))
+      (low i (search rules), moves.lead i ps (n, w) (record { honest = search rules; leaving = search rules }) (search rules) (checked_from _ _ _ _ _ ps (n, w) (search rules))))
 
-  pub start_step : (i : ℕ) (ps : List Record) (n w : ℕ) → Kept u V x (state_after x (start u x i ps n w))
+  pub start_step : (i : ℕ) (ps : List Record) (n w : ℕ) → Kept u V x (acting x (start u x i ps n w))
   start_step i ps n w =
       speaks u V x S (start u x i ps n w).grounds i _ _
       (λ e.
@@ -161,7 +167,7 @@ module _ (u : Setup) (V : Service) (x : State) (S : Sound u V x) where
       ))
 
   -- every call is a step of the rules
-  pub call_step : (c : Call) → Kept u V x (meaning u V x c).after
+  pub call_step : (c : Call) → Kept u V x (meaning u V x c)
   call_step (Stamp op) = stamp_step op
   call_step (Deliver i s) = deliver_step i s
   call_step (Find i) = find_step i
@@ -176,5 +182,5 @@ module _ (u : Setup) (V : Service) (x : State) (S : Sound u V x) where
   call_step (Lead i ps n w) = lead_step i ps n w
   call_step (Start i ps n w) = start_step i ps n w
   call_step (Enter i n w v) = enter_step i n w v
-  call_step (AskAnswer b v s w a) = stays u V x S
-  call_step (AskNoOp b v s) = stays u V x S
+  call_step (AskAnswer b v s w a) = asks u V x S (answer_grounds x b v s w) (answer_certified u x v s w a)
+  call_step (AskNoOp b v s) = asks u V x S (no_op_grounds x b v s) (no_op_certified u x v s)

@@ -3,6 +3,7 @@
 use Rattle.std.proofs.Common.{◌≡◌, ℕ, zero, suc, ◌<◌, ◌≤◌, Bool, true, false, cond, ◌⊎◌, List, [], ◌∷◌, length, take, is_ok, Some, None, Option, sym, refl, ap, ◌∙◌, subst, inl, inr, arith}
 use Rattle.std.proofs.lemmas.Bool.{both_ways, or_cases, or_left, or_right}
 use Rattle.std.proofs.ByRecursion.{All-weaker}
+use Rattle.refusal.specs.Grounds.{Answer}
 use Rattle.record.specs.Same.{same}
 use Rattle.record.specs.declared.Record.{Record}
 use Rattle.record.proofs.Same.{same_decides, same_refl}
@@ -25,7 +26,7 @@ use Rattle.protocol.specs.Lead.{lead}
 use Rattle.protocol.specs.Start.{start}
 use Rattle.protocol.specs.Enter.{enter}
 use Rattle.protocol.specs.Rules.{Said}
-use Rattle.protocol.specs.Call.{Call, Outcome, Meaning, Stamp, Deliver, Find, Drop, Decide, Prepare, Commit, Settle, Reply, Leave, Forge, Lead, Start, Enter, AskAnswer, AskNoOp, acting, asking, meaning}
+use Rattle.protocol.specs.Call.{Call, Outcome, Meaning, Stamp, Deliver, Find, Drop, Decide, Prepare, Commit, Settle, Reply, Leave, Forge, Lead, Start, Enter, AskAnswer, AskNoOp, acting, meaning}
 use Rattle.protocol.specs.Life.{Life, run, outcomes, Enters, state_at, nth}
 use Rattle.protocol.specs.Law.{Entered, Signers}
 use Rattle.protocol.proofs.Books.{Grown, grown_refl, book_push}
@@ -61,9 +62,9 @@ module _ (x : State) where
         | inr s ↦ inr (ap Some ((same_decides q r).0 s))
       ]
 
-  -- a call that only asks
-  asks : (o : Outcome) → Tells x (asking x o)
-  asks o =
+  -- a call that changes nothing
+  nothing_new : (o : Outcome) (g : Answer) → Tells x (record { outcome = o; own = g; after = x; entry = None })
+  nothing_new o g =
       record {
         held = λ r h. elim h [ inl s ↦ s | inr e ↦ cc ];
         only = λ r h. inl h;
@@ -72,16 +73,16 @@ module _ (x : State) where
 
   -- a call that changes the state to y and enters s if b, else nothing
   tells_if :
-      (b : Bool) (o : Outcome) (y : State) (s : Option Record)
-      → (b ≡ true → Tells x (record { outcome = o; after = y; entry = s }))
-      → Tells x (record { outcome = o; after = cond b y x; entry = cond b s None })
-  tells_if true o y s h = h refl
-  tells_if false o y s h = asks o
+      (b : Bool) (o : Outcome) (g : Answer) (y : State) (s : Option Record)
+      → (b ≡ true → Tells x (record { outcome = o; own = g; after = y; entry = s }))
+      → Tells x (record { outcome = o; own = g; after = cond b y x; entry = cond b s None })
+  tells_if true o g y s h = h refl
+  tells_if false o g y s h = nothing_new o g
 
   -- a call that does what a says
   acts : (a : Action) → Grown (book x.stamped) (book a.stamped) → Tells x (acting x a)
   acts a g =
-      tells_if (is_ok (answer_to x a)) _ _ a.says
+      tells_if (is_ok (answer_to x a)) _ _ _ a.says
       (λ e.
       let ok = then_right a.grounds (entry_answer x a.says) e in
       record { held = held_with_all a.says ok; only = held_with_only a.says ok; grown = g })
@@ -106,8 +107,8 @@ module _ (u : Setup) (V : Service) where
   tells x (Lead i ps n w) = stamps_nothing x (lead u x i ps n w) refl
   tells x (Start i ps n w) = stamps_nothing x (start u x i ps n w) refl
   tells x (Enter i n w v) = stamps_nothing x (enter u x i n w v) refl
-  tells x (AskAnswer b v s w a) = asks x _
-  tells x (AskNoOp b v s) = asks x _
+  tells x (AskAnswer b v s w a) = nothing_new x _ _
+  tells x (AskNoOp b v s) = nothing_new x _ _
 
   -- ---- what the register holds after calls
 

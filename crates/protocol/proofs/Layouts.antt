@@ -1,9 +1,8 @@
 -- What the rules let an honest replica say keeps the layout, where the service answers 64 bits.
 --   SaysLayout a  — the statement that the move a says for a replica below 16, if it says one, keeps the layout
-use Rattle.std.proofs.Common.{◌≡◌, ℕ, ◌^◌, ◌<◌, ◌≤◌, false, length, arith, pow_pos, pow_mono, lt_of_lt_of_le, mod-lt}
+use Rattle.std.proofs.Common.{◌≡◌, ℕ, ◌^◌, ◌<◌, ◌≤◌, false, arith, pow_pos, pow_mono, lt_of_lt_of_le, mod-lt}
 use Rattle.record.specs.Layout.{Layout}
 use Rattle.replica.specs.Replicas.{reach}
-use Rattle.replica.specs.Words.{one_past}
 use Rattle.replica.specs.Verdicts.{verdict_number}
 use Rattle.replica.specs.declared.Replica.{Replica}
 use Rattle.replica.specs.declared.Verdict.{Verdict}
@@ -13,7 +12,7 @@ use Rattle.protocol.specs.Setup.{Setup, foreign}
 use Rattle.protocol.specs.Service.{Service, Book, answer_at, Short}
 use Rattle.protocol.specs.Model.{Model, stamps, Move, rests, stamping, forges, becomes, says}
 use Rattle.protocol.specs.Rules.{Allowed, rest, stamp, deliver, find, drop, decide, prepare, commit, settle, reply, leave, forge, lead, begin, enter}
-use Rattle.protocol.proofs.Books.{stamped_below, all_stamped}
+use Rattle.protocol.proofs.Books.{all_stamped}
 use Rattle.protocol.proofs.Invariant.{Inv}
 use Rattle.protocol.proofs.Keeping.{slot_low}
 use Rattle.protocol.proofs.Merging.{merge_small, merge_stamped}

@@ -1,4 +1,4 @@
--- Every call of every life keeps the rules, and every life keeps one ledger.
+-- Every call of every life keeps the rules and is refused as they say, and every life keeps one ledger.
 use Rattle.std.proofs.Common.{◌≡◌, ℕ, zero, suc, length, get_or, replicate, take, sym, refl, subst}
 use Rattle.replica.specs.Replicas.{still}
 use Rattle.protocol.specs.Setup.{Setup}
@@ -8,7 +8,7 @@ use Rattle.protocol.specs.Model.{start}
 use Rattle.protocol.specs.Call.{Call, meaning}
 use Rattle.protocol.specs.Life.{Life, state_at}
 use Rattle.protocol.specs.Law.{OneLedgerAlways}
-use Rattle.protocol.specs.Steps.{model, CallsKeepRules}
+use Rattle.protocol.specs.Steps.{model, CallsKeepRules, RefusalsAreOwnOrFull}
 use Rattle.protocol.proofs.Invariant.{Inv}
 use Rattle.protocol.proofs.Opening.{bound_of_open, few_of_open}
 use Rattle.protocol.proofs.Stepping.{Sound}
@@ -47,6 +47,9 @@ state_sound y k =
 
 pub calls_keep_rules : CallsKeepRules
 calls_keep_rules y k c = (call_step y.bench y.service (state_at y k) (state_sound y k) c).step
+
+pub refusals_own_or_full : RefusalsAreOwnOrFull
+refusals_own_or_full y k c short = (call_step y.bench y.service (state_at y k) (state_sound y k) c).refusals short
 
 pub one_ledger_always : OneLedgerAlways
 one_ledger_always y =

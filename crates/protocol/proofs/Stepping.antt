@@ -1,24 +1,28 @@
 -- A call that is granted makes a move: what all calls share.
-use Rattle.std.proofs.Common.{◌≡◌, ℕ, ◌<◌, ◌≤◌, true, eqb, List, [], ◌∷◌, ◌++◌, length, get_or, set, is_ok, Some, None, Ok, Err, sym, refl, ap, ◌∙◌, subst, inl, inr, arith}
+use Rattle.std.proofs.Common.{◌≡◌, ℕ, ◌<◌, ◌≤◌, Bool, true, false, ◌⊎◌, eqb, Option, List, [], ◌∷◌, ◌++◌, length, get_or, set, is_ok, Some, None, Ok, Err, sym, refl, ap, ◌∙◌, subst, inl, inr, arith}
 use Rattle.std.proofs.lemmas.List.{get_or-set_same, get_or-set_other, length-set}
 use Rattle.std.proofs.lemmas.Bool.{cases_Bool, cases_eq, cond-true, cond-false, cond_both, eq-eqb, ne_eqb, or_left}
 use Rattle.std.proofs.lemmas.Bool.Decides.{nat_tests}
-use Rattle.refusal.specs.Grounds.{Answer, and_then}
+use Rattle.refusal.specs.Grounds.{Answer, refused, and_then}
+use Rattle.refusal.specs.declared.Ground.TheVariants.{RegisterFull}
+use Rattle.refusal.specs.declared.Refusal.{Refusal}
 use Rattle.record.specs.Layout.{Layout, keeps_layout}
 use Rattle.record.specs.Same.{same}
 use Rattle.record.specs.declared.Record.{Record}
-use Rattle.record.proofs.Layouts.{layout_from}
+use Rattle.record.proofs.Layouts.{layout_from, layout_to}
 use Rattle.record.proofs.Same.{same_decides}
 use Rattle.register.specs.Sets.{Set, added, adds, entering, held_after}
 use Rattle.replica.specs.Replicas.{still}
 use Rattle.replica.specs.declared.Replica.{Replica}
 use Rattle.protocol.specs.Setup.{Setup}
-use Rattle.protocol.specs.Service.{Service}
-use Rattle.protocol.specs.State.{State, replica_at, Action, answer_to, state_after}
-use Rattle.protocol.specs.Model.{placed, rests, stamping, forges, becomes, says}
+use Rattle.protocol.specs.Service.{Service, Short}
+use Rattle.protocol.specs.State.{State, replica_at, Action, entry_answer, answer_to, held_with, free_with}
+use Rattle.protocol.specs.Call.{Meaning, Refused, outcome_of, certificate, acting, asking}
+use Rattle.protocol.specs.Model.{placed, Move, rests, stamping, forges, becomes, says, apply, Entry}
 use Rattle.protocol.specs.Rules.{Allowed, rest}
-use Rattle.protocol.specs.Steps.{model, Step}
+use Rattle.protocol.specs.Steps.{model, Step, OwnOrFull}
 use Rattle.protocol.proofs.Invariant.{Inv}
+use Rattle.protocol.proofs.Layouts.{allowed_layout}
 
 -- what stays true of a bench in its lives
 pub record Sound (u : Setup) (V : Service) (x : State) : Type 0 where
@@ -27,9 +31,28 @@ pub record Sound (u : Setup) (V : Service) (x : State) : Type 0 where
   pub room : length x.replicas ≡ 16
 
 -- a step that keeps the number of places for replicas
-pub record Kept (u : Setup) (V : Service) (x y : State) : Type 0 where
-  pub step : Step u V x y
-  pub room : length y.replicas ≡ 16
+record Moved (u : Setup) (V : Service) (x y : State) : Type 0 where
+  step : Step u V x y
+  room : length y.replicas ≡ 16
+
+-- what a call with the meaning m keeps, in the state x
+pub record Kept (u : Setup) (V : Service) (x : State) (m : Meaning) : Type 0 where
+  pub step : Step u V x m.after
+  pub room : length m.after.replicas ≡ 16
+  pub refusals : Short V → OwnOrFull m
+
+-- a call that says what keeps the layout, if its own grounds are a grant
+own_or_full : (x : State) (a : Action) → (is_ok a.grounds ≡ true → (r : Record) → a.says ≡ Some r → Layout r) → OwnOrFull (acting x a)
+own_or_full x a f = record { either = by_grounds a.grounds a.says f }
+  where
+    full : (r : Record) → Layout r → (e : Refusal) → outcome_of (entering x.held x.free r) ≡ Refused e → e ≡ refused RegisterFull 0
+    full r l e h = let k = layout_to r l in grind (arith, nat_tests)
+
+    by_grounds : (g : Answer) (o : Option Record) → (is_ok g ≡ true → (r : Record) → o ≡ Some r → Layout r) → (e : Refusal)
+        → outcome_of (and_then g (entry_answer x o)) ≡ Refused e → (g ≡ Err e) ⊎ (e ≡ refused RegisterFull 0)
+    by_grounds (Err e') o f e h = inl cc
+    by_grounds (Ok t) None f e h = cc
+    by_grounds (Ok t) (Some r) f e h = inr (full r (f refl r refl) e h)
 
 pub then_left : (a b : Answer) → is_ok (and_then a b) ≡ true → is_ok a ≡ true
 then_left (Ok t) b e = refl
@@ -83,126 +106,93 @@ placed_self f i j =
       | inr e ↦ sym (cond-false (eqb i j) (f i) (f j) (ne_eqb i j e))
     ]
 
+some_same : {q r : Record} → Some r ≡ Some q → r ≡ q
+some_same h = cc
+
 module _ (u : Setup) (V : Service) (x : State) (S : Sound u V x) where
-  pub stays : Kept u V x x
+  stays : Moved u V x x
   stays = record { step = record { move = rests; allowed = rest; entry = tt; moves = refl }; room = S.room }
 
-  abbrev pub granted : Action → State
-  granted a =
-      record { stamped = a.stamped; held = x.held; free = x.free; replicas = a.replicas }
+  -- a call that only asks
+  pub asks : (a : Answer) (b : Bool) → Kept u V x (asking x a b)
+  asks a b = record { step = stays.step; room = S.room; refusals = λ _. record { either = own a b } }
+    where
+      own : (a : Answer) (b : Bool) (e : Refusal) → certificate a b ≡ Refused e → (a ≡ Err e) ⊎ (e ≡ refused RegisterFull 0)
+      own (Err e') b e h = inl cc
+      own (Ok t) true e h = cc
+      own (Ok t) false e h = cc
 
-  -- a call that makes replica i be R and says r
-  pub speaks :
-      (g : Answer) (i : ℕ) (R : Replica) (r : Record)
-      → (is_ok g ≡ true → (i < 16) × Allowed u V (model x) (says i R r))
-      → Kept u V x (state_after x (record { grounds = g; says = Some r; stamped = x.stamped; replicas = set x.replicas i R }))
-  speaks g i R r f =
-      let a : Action = record { grounds = g; says = Some r; stamped = x.stamped; replicas = set x.replicas i R } in
-      cond_both (is_ok (answer_to x a)) _ x (λ (z : State). Kept u V x z)
+  granted : Action → State
+  granted a = record { stamped = a.stamped; held = held_with x a.says; free = free_with x a.says; replicas = a.replicas }
+
+  -- a call that does what a says, which is the move v
+  acts :
+      (a : Action) (v : Move) → (is_ok a.grounds ≡ true → Allowed u V (model x) v) → (is_ok (entry_answer x a.says) ≡ true → Entry v)
+      → (is_ok a.grounds ≡ true → is_ok (entry_answer x a.says) ≡ true → model (granted a) ≡ apply (model x) v) → length a.replicas ≡ 16
+      → (Short V → is_ok a.grounds ≡ true → (r : Record) → a.says ≡ Some r → Layout r) → Kept u V x (acting x a)
+  unfolding granted
+  acts a v allowed entry moves room layout =
+      let M =
+      cond_both (is_ok (answer_to x a)) _ x (λ (z : State). Moved u V x z)
       (λ e.
-      let ok = then_right g (entering x.held x.free r) e in
-      let h = f (then_left g (entering x.held x.free r) e) in
-      record {
-        step =
-            record {
-              move = says i R r;
-              allowed = h.1;
-              entry = entered_layout x.held x.free r ok;
-              moves = λ k. record {
-                stamped = x.stamped;
-                held = entered_held x.held x.free r ok k;
-                replica = λ j. set_placed x.replicas i R (omega (arith, h.0, S.room)) j k;
-              };
-            };
-        room = length-set x.replicas i R ∙ S.room;
-      })
-      (λ _. stays)
+      let own = then_left a.grounds (entry_answer x a.says) e in
+      let ok = then_right a.grounds (entry_answer x a.says) e in
+      record { step = record { move = v; allowed = allowed own; entry = entry ok; moves = moves own ok }; room = room })
+      (λ _. stays) in
+      record { step = M.step; room = M.room; refusals = λ s. own_or_full x a (layout s) }
+
+  -- a call that makes the replicas rs, of which i is R, and says r for it
+  says_for :
+      (g : Answer) (i : ℕ) (R : Replica) (r : Record) (rs : List Replica)
+      → (is_ok g ≡ true → (i < 16) × Allowed u V (model x) (says i R r)) → length rs ≡ 16
+      → (i < 16 → (j : ℕ) → get_or rs j still ≡ placed (λ n. replica_at x n) i R j)
+      → Kept u V x (acting x (record { grounds = g; says = Some r; stamped = x.stamped; replicas = rs }))
+  unfolding granted
+  says_for g i R r rs f room replicas =
+      acts (record { grounds = g; says = Some r; stamped = x.stamped; replicas = rs }) (says i R r) (λ e. (f e).1)
+      (λ ok. entered_layout x.held x.free r ok)
+      (λ e ok k. record { stamped = x.stamped; held = entered_held x.held x.free r ok k; replica = λ j. replicas (f e).0 j k }) room
+      (λ short e q h. subst Layout (some_same h) (allowed_layout u V short (model x) S.inv (says i R r) (f e).1 (f e).0))
+
+  pub speaks :
+      (g : Answer) (i : ℕ) (R : Replica) (r : Record) → (is_ok g ≡ true → (i < 16) × Allowed u V (model x) (says i R r))
+      → Kept u V x (acting x (record { grounds = g; says = Some r; stamped = x.stamped; replicas = set x.replicas i R }))
+  speaks g i R r f =
+      says_for g i R r (set x.replicas i R) f (length-set x.replicas i R ∙ S.room)
+      (λ low j. set_placed x.replicas i R (omega (arith, low, S.room)) j)
 
   -- a call that says r for replica i, and changes no replica
   pub speaks_only :
-      (g : Answer) (i : ℕ) (r : Record) → (is_ok g ≡ true → Allowed u V (model x) (says i (replica_at x i) r))
-      → Kept u V x (state_after x (record { grounds = g; says = Some r; stamped = x.stamped; replicas = x.replicas }))
-  speaks_only g i r f =
-      let a : Action = record { grounds = g; says = Some r; stamped = x.stamped; replicas = x.replicas } in
-      cond_both (is_ok (answer_to x a)) _ x (λ (z : State). Kept u V x z)
-      (λ e.
-      let ok = then_right g (entering x.held x.free r) e in
-      record {
-        step =
-            record {
-              move = says i (replica_at x i) r;
-              allowed = f (then_left g (entering x.held x.free r) e);
-              entry = entered_layout x.held x.free r ok;
-              moves = λ k. record {
-                stamped = x.stamped;
-                held = entered_held x.held x.free r ok k;
-                replica = λ j. placed_self (λ n. replica_at x n) i j k;
-              };
-            };
-        room = S.room;
-      })
-      (λ _. stays)
+      (g : Answer) (i : ℕ) (r : Record) → (is_ok g ≡ true → (i < 16) × Allowed u V (model x) (says i (replica_at x i) r))
+      → Kept u V x (acting x (record { grounds = g; says = Some r; stamped = x.stamped; replicas = x.replicas }))
+  speaks_only g i r f = says_for g i (replica_at x i) r x.replicas f S.room (λ _ j. placed_self (λ n. replica_at x n) i j)
 
   -- a call that enters a foreign replica's statement
   pub forged :
-      (g : Answer) (r : Record) → (is_ok g ≡ true → Allowed u V (model x) (forges r))
-      → Kept u V x (state_after x (record { grounds = g; says = Some r; stamped = x.stamped; replicas = x.replicas }))
+      (g : Answer) (r : Record) → (is_ok g ≡ true → (keeps_layout r ≡ true) × Allowed u V (model x) (forges r))
+      → Kept u V x (acting x (record { grounds = g; says = Some r; stamped = x.stamped; replicas = x.replicas }))
+  unfolding granted
   forged g r f =
-      let a : Action = record { grounds = g; says = Some r; stamped = x.stamped; replicas = x.replicas } in
-      cond_both (is_ok (answer_to x a)) _ x (λ (z : State). Kept u V x z)
-      (λ e.
-      let ok = then_right g (entering x.held x.free r) e in
-      record {
-        step =
-            record {
-              move = forges r;
-              allowed = f (then_left g (entering x.held x.free r) e);
-              entry = entered_layout x.held x.free r ok;
-              moves = λ k. record {
-                stamped = x.stamped;
-                held = entered_held x.held x.free r ok k;
-                replica = λ j. replica_at x j;
-              };
-            };
-        room = S.room;
-      })
-      (λ _. stays)
+      acts (record { grounds = g; says = Some r; stamped = x.stamped; replicas = x.replicas }) (forges r) (λ e. (f e).1)
+      (λ ok. entered_layout x.held x.free r ok)
+      (λ e ok k. record { stamped = x.stamped; held = entered_held x.held x.free r ok k; replica = λ j. replica_at x j }) S.room
+      (λ short e q h. subst Layout (some_same h) (layout_from r (f e).0))
 
   -- a call that makes replica i be R, and says nothing
   pub turns :
       (g : Answer) (i : ℕ) (R : Replica) → (is_ok g ≡ true → (i < 16) × Allowed u V (model x) (becomes i R))
-      → Kept u V x (state_after x (record { grounds = g; says = None; stamped = x.stamped; replicas = set x.replicas i R }))
+      → Kept u V x (acting x (record { grounds = g; says = None; stamped = x.stamped; replicas = set x.replicas i R }))
+  unfolding granted
   turns g i R f =
-      let a : Action = record { grounds = g; says = None; stamped = x.stamped; replicas = set x.replicas i R } in
-      cond_both (is_ok (answer_to x a)) _ x (λ (z : State). Kept u V x z)
-      (λ e.
-      let h = f (then_left g (Ok tt) e) in
-      record {
-        step =
-            record {
-              move = becomes i R;
-              allowed = h.1;
-              entry = tt;
-              moves = λ k. record {
-                stamped = x.stamped;
-                held = x.held;
-                replica = λ j. set_placed x.replicas i R (omega (arith, h.0, S.room)) j k;
-              };
-            };
-        room = length-set x.replicas i R ∙ S.room;
-      })
-      (λ _. stays)
+      acts (record { grounds = g; says = None; stamped = x.stamped; replicas = set x.replicas i R }) (becomes i R) (λ e. (f e).1) (λ _. tt)
+      (λ e _ k. record { stamped = x.stamped; held = x.held; replica = λ j. set_placed x.replicas i R (omega (arith, (f e).0, S.room)) j k })
+      (length-set x.replicas i R ∙ S.room) (λ short e q h. cc)
 
   -- a call that stamps an operation
   pub stamps_one :
       (g : Answer) (op : ℕ) → (is_ok g ≡ true → Allowed u V (model x) (stamping op))
-      → Kept u V x (state_after x (record { grounds = g; says = None; stamped = x.stamped ++ op ∷ []; replicas = x.replicas }))
+      → Kept u V x (acting x (record { grounds = g; says = None; stamped = x.stamped ++ op ∷ []; replicas = x.replicas }))
+  unfolding granted
   stamps_one g op f =
-      let a : Action = record { grounds = g; says = None; stamped = x.stamped ++ op ∷ []; replicas = x.replicas } in
-      cond_both (is_ok (answer_to x a)) _ x (λ (z : State). Kept u V x z)
-      (λ e.
-      record {
-        step = record { move = stamping op; allowed = f (then_left g (Ok tt) e); entry = tt; moves = refl };
-        room = S.room;
-      })
-      (λ _. stays)
+      acts (record { grounds = g; says = None; stamped = x.stamped ++ op ∷ []; replicas = x.replicas }) (stamping op) f (λ _. tt)
+      (λ e _. refl) S.room (λ short e q h. cc)

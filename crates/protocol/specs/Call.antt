@@ -3,9 +3,9 @@
 --   Outcome            — what came of a call: granted, yes, no, or refused
 --   outcome_of a       — a grant or a refusal as an outcome
 --   certificate a b    — the outcome of a certificate call with the grounds a, where b tells whether it is certified
---   Meaning            — a call's outcome, the state after it, and the statement that it entered, if any
+--   Meaning            — what a call comes to: its outcome, what its own grounds answer, before the register is asked, the state after it, and the statement that it entered, if any
 --   acting x a         — the meaning of a call that does what a says
---   asking x o         — the meaning of a call with the outcome o that changes nothing
+--   asking x a b       — the meaning of a certificate call with the grounds a, where b tells whether it is certified; it changes nothing
 --   meaning u V x c    — the meaning of the call c, on a bench u with the service V in the state x
 use Rattle.std.specs.Prelude.{ℕ, Bool, cond, List, None, Ok, Err, Option}
 use Rattle.refusal.specs.Grounds.{Answer}
@@ -66,14 +66,16 @@ certificate (Err e) b = Refused e
 
 pub record Meaning : Type 0 where
   pub outcome : Outcome
+  pub own : Answer
   pub after : State
   pub entry : Option Record
 
 abbrev pub acting : State → Action → Meaning
-acting x a = record { outcome = outcome_of (answer_to x a); after = state_after x a; entry = entry_of x a }
+acting x a =
+    record { outcome = outcome_of (answer_to x a); own = a.grounds; after = state_after x a; entry = entry_of x a }
 
-abbrev pub asking : State → Outcome → Meaning
-asking x o = record { outcome = o; after = x; entry = None }
+abbrev pub asking : State → Answer → Bool → Meaning
+asking x a b = record { outcome = certificate a b; own = a; after = x; entry = None }
 
 abbrev pub meaning : Setup → Service → State → Call → Meaning
 meaning u V x (Stamp op) = acting x (stamp x op)
@@ -90,5 +92,5 @@ meaning u V x (Forge r) = acting x (forge u x r)
 meaning u V x (Lead i ps n w) = acting x (lead u x i ps n w)
 meaning u V x (Start i ps n w) = acting x (start u x i ps n w)
 meaning u V x (Enter i n w v) = acting x (enter u x i n w v)
-meaning u V x (AskAnswer b v s w a) = asking x (certificate (answer_grounds x b v s w) (answer_certified u x v s w a))
-meaning u V x (AskNoOp b v s) = asking x (certificate (no_op_grounds x b v s) (no_op_certified u x v s))
+meaning u V x (AskAnswer b v s w a) = asking x (answer_grounds x b v s w) (answer_certified u x v s w a)
+meaning u V x (AskNoOp b v s) = asking x (no_op_grounds x b v s) (no_op_certified u x v s)

@@ -1,12 +1,17 @@
--- What it is for every call to keep the rules: it makes a move that they allow, or none.
---   model x          — a bench's state, without its storage
---   Step u V x y     — the state x goes to y by a move that the rules allow
---   CallsKeepRules   — whatever the life, and however long it has gone on, the next call is such a step
-use Rattle.std.specs.Prelude.{◌≡◌, ℕ}
+-- What it is for every call to keep the rules: it makes a move that they allow, or none; and it is refused on its own grounds, or since the register is full.
+--   model x               — a bench's state, without its storage
+--   Step u V x y          — the state x goes to y by a move that the rules allow
+--   OwnOrFull m           — if the call with the meaning m is refused, then on its own grounds, or since the register is full
+--   CallsKeepRules        — whatever the life, and however long it has gone on, the next call is such a step
+--   RefusalsAreOwnOrFull  — whatever the life, and however long it has gone on, the next call is refused so, if at all, where the service answers 64 bits: no honest replica says what breaks the layout
+use Rattle.std.specs.Prelude.{◌≡◌, ℕ, ◌⊎◌, Err}
+use Rattle.refusal.specs.Grounds.{refused}
+use Rattle.refusal.specs.declared.Ground.TheVariants.{RegisterFull}
+use Rattle.refusal.specs.declared.Refusal.{Refusal}
 use Rattle.protocol.specs.Setup.{Setup}
-use Rattle.protocol.specs.Service.{Service}
+use Rattle.protocol.specs.Service.{Service, Short}
 use Rattle.protocol.specs.State.{State, replica_at}
-use Rattle.protocol.specs.Call.{Call, meaning}
+use Rattle.protocol.specs.Call.{Call, Meaning, Refused, meaning}
 use Rattle.protocol.specs.Life.{Life, state_at}
 use Rattle.protocol.specs.Model.{Model, Move, apply, Entry}
 use Rattle.protocol.specs.Rules.{Allowed}
@@ -24,3 +29,10 @@ abbrev pub CallsKeepRules : Type 0
 CallsKeepRules =
     (y : Life) (k : ℕ) (c : Call)
     → Step y.bench y.service (state_at y k) (meaning y.bench y.service (state_at y k) c).after
+
+pub record OwnOrFull (m : Meaning) : Type 0 where
+  pub either : (e : Refusal) → m.outcome ≡ Refused e → (m.own ≡ Err e) ⊎ (e ≡ refused RegisterFull 0)
+
+abbrev pub RefusalsAreOwnOrFull : Type 0
+RefusalsAreOwnOrFull =
+    (y : Life) (k : ℕ) (c : Call) → Short y.service → OwnOrFull (meaning y.bench y.service (state_at y k) c)

@@ -5,11 +5,12 @@
 #![tactic(auto)]
 
 ghost use Rattle.protocol.specs.Law.{OneLedgerAlways};
-ghost use Rattle.protocol.specs.Steps.{CallsKeepRules};
+ghost use Rattle.protocol.specs.Steps.{CallsKeepRules, RefusalsAreOwnOrFull};
 
 /// The law, and what it stands on.
-#[tactic(auto, using(crate::proofs::Ledger::one_ledger_always, crate::proofs::Ledger::calls_keep_rules))]
+#[tactic(auto, using(crate::proofs::Ledger::one_ledger_always, crate::proofs::Ledger::calls_keep_rules, crate::proofs::Ledger::refusals_own_or_full))]
 pub fn one_ledger()
     ensures every_life_keeps_one_ledger { OneLedgerAlways }
     ensures every_call_keeps_the_rules { CallsKeepRules }
+    ensures every_refusal_is_own_or_full { RefusalsAreOwnOrFull }
 {}
