@@ -7,9 +7,9 @@
 --   table             — the calls, each with what comes of it
 --   example           — the life of these calls
 --   example_outcomes  — what comes of each of its calls
---   OutcomesHold       — these are its outcomes
---   LinesHold      — after 59 calls, right after they entered view 1, replicas 0, 1 and 2 have the line of length 2 with a no-op at slot 1
---   Certifies  — the answers for slots 0 and 2 and the no-op at slot 1 are certified, as the law says it
+--   OutcomesHold      — these are its outcomes
+--   LinesHold         — after 59 calls, right after they entered view 1, replicas 0, 1 and 2 have the line of length 2 with a no-op at slot 1
+--   Certifies         — the answers for slots 0 and 2 and the no-op at slot 1 are certified, as the law says it
 -- In view 0 slot 0 is answered and slot 1 skipped; in view 1 slot 2 is answered, past the no-op.
 -- The register has as many places as different statements are said, so at the end it is full.
 -- Every ground is met but the three of the open, which is granted, and that of the 64 slots.

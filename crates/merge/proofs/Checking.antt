@@ -1,6 +1,6 @@
 -- What a grant tells of the picks.
 use Rattle.std.proofs.Common.{◌≡◌, ℕ, zero, suc, ◌+◌, ◌<◌, Bool, true, false, eqb, List, [], ◌∷◌, length, get_or, take, is_ok, Ok, Err, refl, subst, inl, inr, arith}
-use Rattle.std.proofs.ByRecursion.{all_from_every}
+use Rattle.std.proofs.ByRecursion.{All-map, all_from_every}
 use Rattle.std.proofs.lemmas.Bool.{or_parts, eqb-true, eqb-false, cases_eq, both_ways}
 use Rattle.std.proofs.lemmas.Bool.Decides.{nat_tests}
 use Rattle.refusal.specs.Grounds.{Answer, unless, and_then}
@@ -8,9 +8,10 @@ use Rattle.refusal.specs.declared.Ground.{Ground}
 use Rattle.refusal.specs.declared.Ground.TheVariants.{Picks, BaseNotCertified, StatementsMissing}
 use Rattle.record.specs.declared.Record.{Record}
 use Rattle.register.specs.Sets.{Set}
+use Rattle.quorum.specs.Quorums.{Different}
 use Rattle.merge.specs.Merges.{top}
 use Rattle.merge.proofs.Prepares.{prepared_decides}
-use Rattle.merge.specs.Checks.{first_fault, signs, fits, prepared, backed, certified, pick_grounds, base_grounds, backing_grounds, merge_grounds, Certified, Different, Picked, Checked}
+use Rattle.merge.specs.Checks.{first_fault, signs, fits, prepared, backed, certified, pick_grounds, base_grounds, backing_grounds, merge_grounds, Certified, signers, Picked, Checked}
 
 unless_granted : (t : Bool) (g : Ground) (p : ℕ) (a : Answer) → is_ok (unless t g p a) ≡ true → (t ≡ true) × (is_ok a ≡ true)
 unless_granted true g p a h = (refl, h)
@@ -33,11 +34,11 @@ each_passes : (g : Ground) (t : ℕ → Record → Bool) (ps : List Record) → 
 each_passes g t ps h i = passes_at g t 0 ps h i i (omega arith)
 
 -- picks of which none is signed by the signer of one before it
-different_from : (ps : List Record) → ((i : ℕ) (d : Record) → i < length ps → signs (take i ps) (get_or ps i d).signer ≡ false) → Different ps
+different_from : (ps : List Record) → ((i : ℕ) (d : Record) → i < length ps → signs (take i ps) (get_or ps i d).signer ≡ false) → Different (signers ps)
 different_from [] h = tt
 different_from (p ∷ ps) h =
     let parts = λ (i : ℕ) (d : Record) (l : i < length ps). or_parts (eqb p.signer (get_or ps i d).signer) _ (h (suc i) d (omega arith)) in (
-      all_from_every _ ps (λ i d _ l. eqb-false _ _ (parts i d l).0),
+      All-map (λ (j : ℕ). p.signer ≡ j → ⊥) (λ (o : Record). o.signer) ps (all_from_every _ ps (λ i d _ l. eqb-false _ _ (parts i d l).0)),
       different_from ps (λ i d l. (parts i d l).1),
     )
 

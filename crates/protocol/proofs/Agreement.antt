@@ -1,8 +1,8 @@
 -- The views agree: what a quorum certified in one view, every later view starts from.
---   Seen u h v s w b    — what an answer certified in view v, for slot s along the word w, says of the base b of its view
---   Marks u h v p       — the test p keeps view v: it has the bits of the view's base, it is true at each no-op that was certified in v, and above the base at none but those that were prepared
---   Carried a s f b     — the base b goes past slot s, and its bits from a through s are those of f
---   Met u m x v t n w   — an honest replica said x, and a VIEW-CHANGE for view v that the line n, w of the merge from view t covers
+--   Seen u h v s w b         — what an answer certified in view v, for slot s along the word w, says of the base b of its view
+--   Marks u h v p            — the test p keeps view v: it has the bits of the view's base, it is true at each no-op that was certified in v, and above the base at none but those that were prepared
+--   InBase a s f b           — the base b goes past slot s, and its bits from a through s are those of f
+--   Witnessed u m x v t n w  — an honest replica said x, and a VIEW-CHANGE for view v that the line n, w of the merge from view t covers
 use Rattle.std.proofs.Common.{◌≡◌, ℕ, zero, suc, ◌<◌, ◌≤◌, Bool, true, sym, refl, ap, ◌∙◌, subst, ap₂, inl, inr, arith}
 use Rattle.std.proofs.lemmas.Bool.{both_ways, cases_lt, cases_Bool, true_from_ne_false, false_from_ne_true}
 use Rattle.record.specs.Layout.{Layout}
@@ -16,7 +16,7 @@ use Rattle.protocol.specs.Service.{Service}
 use Rattle.protocol.specs.Model.{Model, stamps}
 use Rattle.protocol.specs.Rules.{Said, Started}
 use Rattle.protocol.proofs.Counting.{intersect, member}
-use Rattle.protocol.proofs.Invariant.{Inv, Merged, Rivals, Pledge, Change, reply_of, prepare_of, commit_of, change_of, merged_of}
+use Rattle.protocol.proofs.Invariant.{Inv, Merged, Competing, Covers, Change, reply_of, prepare_of, commit_of, change_of, merged_of}
 
 pub record Seen (u : Setup) (h : Set) (v s w : ℕ) (b : ℕ × ℕ) : Type 0 where
   pub below : (l : ℕ) → l ≤ s → l < b.0 → bit w l ≡ bit b.1 l
@@ -29,24 +29,24 @@ pub record Marks (u : Setup) (h : Set) (v : ℕ) (p : ℕ → Bool) : Type 0 whe
   pub above : (l : ℕ) → base.0 ≤ l → p l ≡ true → QuorumSaid u h (prepare_by 0 v l 1)
   pub no_ops : (l : ℕ) → QuorumSaid u h (commit_by 0 v l 1) → p l ≡ true
 
-pub record Carried (a s : ℕ) (f : ℕ → Bool) (b : ℕ × ℕ) : Type 0 where
+pub record InBase (a s : ℕ) (f : ℕ → Bool) (b : ℕ × ℕ) : Type 0 where
   pub within : s < b.0
   pub bits : (l : ℕ) → a ≤ l → l ≤ s → bit b.1 l ≡ f l
 
-record Met (u : Setup) (m : Model) (x : Record) (v t n w : ℕ) : Type 0 where
+record Witnessed (u : Setup) (m : Model) (x : Record) (v t n w : ℕ) : Type 0 where
   who : ℕ
   says : Said m.held (signed_by x who)
-  pledge : Pledge m.held v t n w who
-  change : Change m.held who (m.replica who).target v pledge.last pledge.reach pledge.word
+  covering : Covers m.held v t n w who
+  change : Change m.held who (m.replica who).target v covering.last covering.reach covering.word
 
 module _ (u : Setup) (V : Service) (m : Model) (I : Inv u V m) where
   -- rivals that a quorum said each are one, but for their signers
-  one_content : (x y : Record) → Rivals x y → QuorumSaid u m.held x → QuorumSaid u m.held y → signed_by x 0 ≡ signed_by y 0
+  one_content : (x y : Record) → Competing x y → QuorumSaid u m.held x → QuorumSaid u m.held y → signed_by x 0 ≡ signed_by y 0
   one_content x y r p q =
       let b = intersect u I.few (said m.held x) (said m.held y) p q in
       let same : signed_by x b.who ≡ signed_by y b.who =
       (I.good b.who b.honest).once (signed_by x b.who) (signed_by y b.who) refl b.first b.second
-      (record { bound = r.bound; kinds = r.kinds; signers = refl; views = r.views; slots = r.slots }) in
+      (record { unique = r.unique; kinds = r.kinds; signers = refl; views = r.views; slots = r.slots }) in
       ap (λ (z : Record). signed_by z 0) same
 
   pub quorum_layout : (x : Record) → QuorumSaid u m.held x → (i : ℕ) × Layout (signed_by x i)
@@ -60,7 +60,7 @@ module _ (u : Setup) (V : Service) (m : Model) (I : Inv u V m) where
   started_unique v b b' (inr p) (inr q) =
       ap (λ (z : Record). (z.slot, z.word))
       (one_content (entry_by 0 v b.0 b.1) (entry_by 0 v b'.0 b'.1)
-      (record { bound = inr (inr refl); kinds = refl; signers = refl; views = refl; slots = λ k. absurd (omega (arith, k)) }) p.1 q.1)
+      (record { unique = inr (inr refl); kinds = refl; signers = refl; views = refl; slots = λ k. absurd (omega (arith, k)) }) p.1 q.1)
 
   pub started_merged :
       (v : ℕ) (b : ℕ × ℕ) → 0 < v → Started u m.held v b → Merged u m.held (stamps m) v b.0 b.1
@@ -74,7 +74,7 @@ module _ (u : Setup) (V : Service) (m : Model) (I : Inv u V m) where
   prepare_clash v l p q =
       let e =
       one_content (prepare_by 0 v l 0) (prepare_by 0 v l 1)
-      (record { bound = inl refl; kinds = refl; signers = refl; views = refl; slots = λ _. refl }) p q in
+      (record { unique = inl refl; kinds = refl; signers = refl; views = refl; slots = λ _. refl }) p q in
       let z : ◌≡◌ {A = ℕ} 0 1 = ap (λ (x : Record). x.verdict) e in
       omega (arith, z)
 
@@ -126,23 +126,23 @@ module _ (u : Setup) (V : Service) (m : Model) (I : Inv u V m) where
         ]
       ]
 
-  met : (x : Record) (v n w : ℕ) → QuorumSaid u m.held x → (M : Merged u m.held (stamps m) v n w) → Met u m x v M.top n w
-  met x v n w q M =
+  witnessed : (x : Record) (v n w : ℕ) → QuorumSaid u m.held x → (M : Merged u m.held (stamps m) v n w) → Witnessed u m x v M.top n w
+  witnessed x v n w q M =
       let r = intersect u I.few M.signs (said m.held x) M.many q in
-      let p = M.pledged r.who r.below r.first in
-      record { who = r.who; says = r.second; pledge = p; change = change_of u V m I r.who r.honest v p.last p.reach p.word p.said }
+      let p = M.covers r.who r.below r.first in
+      record { who = r.who; says = r.second; covering = p; change = change_of u V m I r.who r.honest v p.last p.reach p.word p.said }
 
   -- what each merge from view v or from before has, the base of every view after v has
-  carry :
+  through_views :
       (v a s : ℕ) (f : ℕ → Bool) (fuel t : ℕ) (b : ℕ × ℕ) → t < fuel → v < t → Started u m.held t b
-      → ((t : ℕ) (b : ℕ × ℕ) → v < t → Started u m.held t b → (M : Merged u m.held (stamps m) t b.0 b.1) → M.top ≤ v → Carried a s f b)
-      → Carried a s f b
-  carry v a s f zero t b k h e step = absurd (omega arith)
-  carry v a s f (suc fuel) t b k h e step =
+      → ((t : ℕ) (b : ℕ × ℕ) → v < t → Started u m.held t b → (M : Merged u m.held (stamps m) t b.0 b.1) → M.top ≤ v → InBase a s f b)
+      → InBase a s f b
+  through_views v a s f zero t b k h e step = absurd (omega arith)
+  through_views v a s f (suc fuel) t b k h e step =
       let M = started_merged t b (omega arith) e in
       elim (cases_lt v M.top) [
         | inl j ↦
-            let c = carry v a s f fuel M.top (M.base, M.base_word) (omega (arith, M.older)) j M.started step in
+            let c = through_views v a s f fuel M.top (M.base, M.base_word) (omega (arith, M.older)) j M.started step in
             record {
               within = omega (arith, c.within, M.order);
               bits = λ l p q. M.below l (omega (arith, c.within)) ∙ c.bits l p q;
@@ -151,19 +151,19 @@ module _ (u : Setup) (V : Service) (m : Model) (I : Inv u V m) where
       ]
 
   -- a certified no-op is in the base of every later view
-  pub skip_carried :
+  pub no_op_in_base :
       (v s t : ℕ) (b : ℕ × ℕ) → QuorumSaid u m.held (commit_by 0 v s 1) → v < t → Started u m.held t b
-      → Carried s s (λ _. true) b
-  skip_carried v s t b q h e =
-      carry v s s (λ _. true) (suc t) t b (omega arith) h e
+      → InBase s s (λ _. true) b
+  no_op_in_base v s t b q h e =
+      through_views v s s (λ _. true) (suc t) t b (omega arith) h e
       (λ t b h e M j.
-      let k = met (commit_by 0 v s 1) t b.0 b.1 q M in
+      let k = witnessed (commit_by 0 v s 1) t b.0 b.1 q M in
       let c = k.change.commits v s h k.says in
-      let last : v ≡ k.pledge.last = omega (arith, c.0, k.pledge.under) in
-      let top : k.pledge.last ≡ M.top = omega (arith, c.0, k.pledge.under) in
+      let last : v ≡ k.covering.last = omega (arith, c.0, k.covering.under) in
+      let top : k.covering.last ≡ M.top = omega (arith, c.0, k.covering.under) in
       record {
-        within = omega (arith, (c.1 last).1, k.pledge.within top);
-        bits = λ l p r. let same : l ≡ s = omega arith in ap (bit b.1) same ∙ k.pledge.bits top s (c.1 last).0;
+        within = omega (arith, (c.1 last).1, k.covering.within top);
+        bits = λ l p r. let same : l ≡ s = omega arith in ap (bit b.1) same ∙ k.covering.bits top s (c.1 last).0;
       })
 
   -- a merge keeps the view that it starts from
@@ -175,22 +175,22 @@ module _ (u : Setup) (V : Service) (m : Model) (I : Inv u V m) where
         started = M.started;
         below = M.below;
         above = M.above;
-        no_ops = λ l q. (skip_carried M.top l t b q M.older e).bits l (omega arith) (omega arith);
+        no_ops = λ l q. (no_op_in_base M.top l t b q M.older e).bits l (omega arith) (omega arith);
       }
 
   -- and so are the slot of a certified answer and the word below it
-  pub answer_carried :
+  pub answer_in_base :
       (v s w a t : ℕ) (b : ℕ × ℕ) → QuorumSaid u m.held (reply_by 0 v s w a) → v < t → Started u m.held t b
-      → Carried 0 s (bit w) b
-  answer_carried v s w a t b q h e =
-      carry v 0 s (bit w) (suc t) t b (omega arith) h e
+      → InBase 0 s (bit w) b
+  answer_in_base v s w a t b q h e =
+      through_views v 0 s (bit w) (suc t) t b (omega arith) h e
       (λ t b h e M j.
-      let k = met (reply_by 0 v s w a) t b.0 b.1 q M in
+      let k = witnessed (reply_by 0 v s w a) t b.0 b.1 q M in
       let c = k.change.replies v s w a h k.says in
-      let last : v ≡ k.pledge.last = omega (arith, c.0, k.pledge.under) in
-      let top : k.pledge.last ≡ M.top = omega (arith, c.0, k.pledge.under) in
+      let last : v ≡ k.covering.last = omega (arith, c.0, k.covering.under) in
+      let top : k.covering.last ≡ M.top = omega (arith, c.0, k.covering.under) in
       let here = subst (λ (x : ℕ). QuorumSaid u m.held (reply_by 0 x s w a)) (last ∙ top) q in
       record {
-        within = omega (arith, c.1 last, k.pledge.within top);
+        within = omega (arith, c.1 last, k.covering.within top);
         bits = λ l _ p. answer_marked M.top s w a (bit b.1) here (merged_marks t b e M) l p;
       })

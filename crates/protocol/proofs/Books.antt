@@ -1,11 +1,11 @@
 -- The laws of books: a stamped slot stays stamped with its operation, and services that are fed alike answer alike.
+--   Grown b b'  — the book b' keeps every operation of the book b
 use Rattle.std.proofs.Common.{◌≡◌, ℕ, zero, suc, ◌<◌, ◌≤◌, Bool, cond, List, [], ◌∷◌, ◌++◌, length, get_or, Some, None, Option, sym, refl, ap, ◌∙◌, ap₂, inl, inr, arith, length-append}
 use lib.ListN.{get_or-append}
 use Rattle.std.proofs.lemmas.Bool.{cond-true, cases_lt, lt-ltb, le-ltb, cond-false}
 use Rattle.replica.specs.Words.{bit}
 use Rattle.protocol.specs.Service.{Book, book, is_stamped, Known, Service, listed, fed, operation_at, answer_at}
 
--- a book that keeps every operation of another
 abbrev pub Grown : Book → Book → Type 0
 Grown b b' = (l o : ℕ) → b l ≡ Some o → b' l ≡ Some o
 

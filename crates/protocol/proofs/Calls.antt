@@ -43,10 +43,13 @@ use Rattle.protocol.proofs.Stepping.{Sound, Kept, asks, then_left, then_right, s
 module _ (u : Setup) (V : Service) (x : State) (S : Sound u V x) where
   -- a replica below n has a place
   low : (i : ℕ) → i < replicas u → i < 16
-  low i h = omega (arith, S.bound)
+  low i h = omega (arith, S.faults)
 
   works : (i : ℕ) → foreign u i ≡ false → (replica_at x i).target ≤ (replica_at x i).view → Works u i (replica_at x i)
-  works i f h = record { honest = f; at_work = let t = (S.inv.good i f).tidy.ahead in omega (arith, t) }
+  works i f h = record { honest = f; at_work = let t = (S.inv.good i f).bounds.ahead in omega (arith, t) }
+
+  opens : (i s : ℕ) → (replica_at x i).base ≤ s → s ≤ (replica_at x i).length → s < length x.stamped → Open (stamps (model x)) (replica_at x i) s
+  opens i s from to h = record { from = from; to = to; known = known_below x.stamped s h }
 
   through : (s : ℕ) → s < length x.stamped → Upto (stamps (model x)) s
   through s h l le = known_below x.stamped l (omega arith)
@@ -95,7 +98,7 @@ module _ (u : Setup) (V : Service) (x : State) (S : Sound u V x) where
       speaks_only u V x S (decide u x i s d).grounds i _
       (λ e. (
         low i (search rules),
-        moves.decide i s d (works i (search rules) (search rules)) (record { from = search rules; to = search rules; known = known_below x.stamped s (search rules) })
+        moves.decide i s d (works i (search rules) (search rules)) (opens i s (search rules) (search rules) (search rules))
             (search rules) (drops_by _ s d (search rules)) (search rules),
       ))
 
@@ -104,7 +107,7 @@ module _ (u : Setup) (V : Service) (x : State) (S : Sound u V x) where
       speaks_only u V x S (prepare u x i s d).grounds i _
       (λ e. (
         low i (search rules),
-        moves.prepare i s d (works i (search rules) (search rules)) (record { from = search rules; to = search rules; known = known_below x.stamped s (search rules) })
+        moves.prepare i s d (works i (search rules) (search rules)) (opens i s (search rules) (search rules) (search rules))
             (search rules) (drops_by _ s d (search rules)) (search rules),
       ))
 
@@ -113,7 +116,7 @@ module _ (u : Setup) (V : Service) (x : State) (S : Sound u V x) where
       speaks u V x S (commit u x i s d).grounds i _ _
       (λ e. (
         low i (search rules),
-        moves.commit i s d (works i (search rules) (search rules)) (record { from = search rules; to = search rules; known = known_below x.stamped s (search rules) })
+        moves.commit i s d (works i (search rules) (search rules)) (opens i s (search rules) (search rules) (search rules))
             (search rules),
       ))
 
@@ -122,7 +125,7 @@ module _ (u : Setup) (V : Service) (x : State) (S : Sound u V x) where
       turns u V x S (settle u x i s d).grounds i _
       (λ e. (
         low i (search rules),
-        moves.settle i s d (works i (search rules) (search rules)) (record { from = search rules; to = search rules; known = known_below x.stamped s (search rules) })
+        moves.settle i s d (works i (search rules) (search rules)) (opens i s (search rules) (search rules) (search rules))
             (search rules),
       ))
 
@@ -162,7 +165,7 @@ module _ (u : Setup) (V : Service) (x : State) (S : Sound u V x) where
       let merges = then_left grounds _ both in
       let leads = then_right grounds _ both in (
         low i (search rules),
-        moves.begin i ps (n, w) (record { honest = search rules; leaving = search rules }) (search rules) (search rules)
+        moves.start i ps (n, w) (record { honest = search rules; leaving = search rules }) (search rules) (search rules)
             (checked_from _ _ _ _ _ ps (n, w) merges),
       ))
 

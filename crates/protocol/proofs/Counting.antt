@@ -1,35 +1,41 @@
 -- Quorums meet.
+--   Few u         — at most f of the replicas are foreign
+--   Both u a b    — an honest replica that passes both tests a and b
+--   Honest u a    — an honest replica that passes the test a
 use Rattle.std.proofs.Common.{◌≡◌, ℕ, zero, suc, ◌+◌, ◌<◌, ◌≤◌, Bool, true, false, cond, not, ◌&&◌, ◌||◌, eqb, refl, ap, subst, inl, inr, arith}
 use Rattle.std.proofs.lemmas.Bool.{both_ways, and_parts, not-true, ne_eqb, eq-eqb, or_left, cases_eq}
 use Rattle.quorum.specs.Quorums.{count}
-use Rattle.protocol.specs.Setup.{Setup, replicas, foreign, Few, Many}
+use Rattle.protocol.specs.Setup.{Setup, replicas, foreign, Many}
 
-weigh_mono : (a b : Bool) → (a ≡ true → b ≡ true) → ◌≤◌ (cond a 1 0) (cond b 1 0)
-weigh_mono true true h = omega arith
-weigh_mono true false h = absurd (both_ways false refl (h refl))
-weigh_mono false true h = omega arith
-weigh_mono false false h = omega arith
+abbrev pub Few : Setup → Type 0
+Few u = count (replicas u) (foreign u) ≤ u.f
+
+indicator_mono : (a b : Bool) → (a ≡ true → b ≡ true) → ◌≤◌ (cond a 1 0) (cond b 1 0)
+indicator_mono true true h = omega arith
+indicator_mono true false h = absurd (both_ways false refl (h refl))
+indicator_mono false true h = omega arith
+indicator_mono false false h = omega arith
 
 pub count_mono : (n : ℕ) (p q : ℕ → Bool) → ((i : ℕ) → p i ≡ true → q i ≡ true) → count n p ≤ count n q
 unfolding count
 count_mono zero p q h = omega arith
-count_mono (suc n) p q h = omega (arith, count_mono n p q h, weigh_mono (p n) (q n) (h n))
+count_mono (suc n) p q h = omega (arith, count_mono n p q h, indicator_mono (p n) (q n) (h n))
 
-weigh_meet : (a b f : Bool) → cond a 1 0 + cond b 1 0 ≤ 1 + cond f 1 0 + cond (a && (b && not f)) 1 0
-weigh_meet true true true = omega arith
-weigh_meet true true false = omega arith
-weigh_meet true false true = omega arith
-weigh_meet true false false = omega arith
-weigh_meet false true true = omega arith
-weigh_meet false true false = omega arith
-weigh_meet false false true = omega arith
-weigh_meet false false false = omega arith
+indicator_meet : (a b f : Bool) → cond a 1 0 + cond b 1 0 ≤ 1 + cond f 1 0 + cond (a && (b && not f)) 1 0
+indicator_meet true true true = omega arith
+indicator_meet true true false = omega arith
+indicator_meet true false true = omega arith
+indicator_meet true false false = omega arith
+indicator_meet false true true = omega arith
+indicator_meet false true false = omega arith
+indicator_meet false false true = omega arith
+indicator_meet false false false = omega arith
 
 -- of n numbers that are counted in a and in b, those that are in both and not in f
 meet : (n : ℕ) (a b f : ℕ → Bool) → count n a + count n b ≤ n + count n f + count n (λ i. a i && (b i && not (f i)))
 unfolding count
 meet zero a b f = omega arith
-meet (suc n) a b f = omega (arith, meet n a b f, weigh_meet (a n) (b n) (f n))
+meet (suc n) a b f = omega (arith, meet n a b f, indicator_meet (a n) (b n) (f n))
 
 pub some_below : (n : ℕ) (p : ℕ → Bool) → 0 < count n p → (i : ℕ) × (i < n) × (p i ≡ true)
 unfolding count
@@ -43,7 +49,6 @@ some_below (suc n) p h = go (p n) refl (some_below n p)
         let r = ih (omega arith) in
         (r.0, omega (arith, r.1), r.2)
 
--- an honest replica that passes both tests
 pub record Both (u : Setup) (a b : ℕ → Bool) : Type 0 where
   pub who : ℕ
   pub below : who < replicas u
@@ -79,14 +84,14 @@ unfolding count
 count_none zero = refl
 count_none (suc n) = omega (arith, count_none n)
 
-pub weigh_ext : (a b : Bool) → a ≡ b → ◌≡◌ {A = ℕ} (cond a 1 0) (cond b 1 0)
-weigh_ext a b e = ap (λ (x : Bool). cond x 1 0) e
+pub indicator_ext : (a b : Bool) → a ≡ b → ◌≡◌ {A = ℕ} (cond a 1 0) (cond b 1 0)
+indicator_ext a b e = ap (λ (x : Bool). cond x 1 0) e
 
 pub count_ext : (n : ℕ) (p q : ℕ → Bool) → ((i : ℕ) → i < n → p i ≡ q i) → count n p ≡ count n q
 unfolding count
 count_ext zero p q h = refl
 count_ext (suc n) p q h =
-    omega (arith, count_ext n p q (λ i k. h i (omega arith)), weigh_ext (p n) (q n) (h n (omega arith)))
+    omega (arith, count_ext n p q (λ i k. h i (omega arith)), indicator_ext (p n) (q n) (h n (omega arith)))
 
 -- one more number passes
 pub count_one_more : (n a : ℕ) (q : ℕ → Bool) → a < n → q a ≡ false → count n (λ i. eqb a i || q i) ≡ suc (count n q)
@@ -97,13 +102,13 @@ count_one_more (suc n) a q h e = elim (cases_eq a n) [
       omega (
         arith,
         count_ext n (λ i. eqb a i || q i) q (λ i k. ap (λ (b : Bool). b || q i) (ne_eqb a i (λ y. omega arith))),
-        weigh_ext (eqb a n || q n) true (or_left (eqb a n) (q n) (eq-eqb a n t)),
-        weigh_ext (q n) false (subst (λ (x : ℕ). q x ≡ false) t e),
+        indicator_ext (eqb a n || q n) true (or_left (eqb a n) (q n) (eq-eqb a n t)),
+        indicator_ext (q n) false (subst (λ (x : ℕ). q x ≡ false) t e),
       )
   | inr t ↦
       omega (
         arith,
         count_one_more n a q (omega arith) e,
-        weigh_ext (eqb a n || q n) (q n) (ap (λ (b : Bool). b || q n) (ne_eqb a n t)),
+        indicator_ext (eqb a n || q n) (q n) (ap (λ (b : Bool). b || q n) (ne_eqb a n t)),
       )
 ]

@@ -1,5 +1,5 @@
 -- The register and the stamped operations along a life.
---   Tells x m  — after the call with the meaning m the register of the state x holds what it held and what the call entered, and nothing else; and stamped operations stay stamped
+--   Effect x m  — after the call with the meaning m the register of the state x holds what it held and what the call entered, and nothing else; and stamped operations stay stamped
 use Rattle.std.proofs.Common.{◌≡◌, ℕ, zero, suc, ◌<◌, ◌≤◌, Bool, true, false, cond, ◌⊎◌, List, [], ◌∷◌, length, take, is_ok, Some, None, Option, sym, refl, ap, ◌∙◌, subst, inl, inr, arith}
 use Rattle.std.proofs.lemmas.Bool.{both_ways, or_cases, or_left, or_right}
 use Rattle.std.proofs.ByRecursion.{All-weaker}
@@ -33,7 +33,7 @@ use Rattle.protocol.proofs.Books.{Grown, grown_refl, book_push}
 use Rattle.protocol.proofs.Signing.{count_of_list, list_of_count}
 use Rattle.protocol.proofs.Stepping.{then_right, entered_held}
 
-pub record Tells (x : State) (m : Meaning) : Type 0 where
+pub record Effect (x : State) (m : Meaning) : Type 0 where
   pub held : (r : Record) → (Said x.held r) ⊎ (m.entry ≡ Some r) → Said m.after.held r
   pub only : (r : Record) → Said m.after.held r → (Said x.held r) ⊎ (m.entry ≡ Some r)
   pub grown : Grown (book x.stamped) (book m.after.stamped)
@@ -63,7 +63,7 @@ module _ (x : State) where
       ]
 
   -- a call that changes nothing
-  nothing_new : (o : Outcome) (g : Answer) → Tells x (record { outcome = o; own = g; after = x; entry = None })
+  nothing_new : (o : Outcome) (g : Answer) → Effect x (record { outcome = o; own = g; after = x; entry = None })
   nothing_new o g =
       record {
         held = λ r h. elim h [ inl s ↦ s | inr e ↦ cc ];
@@ -72,43 +72,43 @@ module _ (x : State) where
       }
 
   -- a call that changes the state to y and enters s if b, else nothing
-  tells_if :
+  effect_if :
       (b : Bool) (o : Outcome) (g : Answer) (y : State) (s : Option Record)
-      → (b ≡ true → Tells x (record { outcome = o; own = g; after = y; entry = s }))
-      → Tells x (record { outcome = o; own = g; after = cond b y x; entry = cond b s None })
-  tells_if true o g y s h = h refl
-  tells_if false o g y s h = nothing_new o g
+      → (b ≡ true → Effect x (record { outcome = o; own = g; after = y; entry = s }))
+      → Effect x (record { outcome = o; own = g; after = cond b y x; entry = cond b s None })
+  effect_if true o g y s h = h refl
+  effect_if false o g y s h = nothing_new o g
 
   -- a call that does what a says
-  acts : (a : Action) → Grown (book x.stamped) (book a.stamped) → Tells x (acting x a)
+  acts : (a : Action) → Grown (book x.stamped) (book a.stamped) → Effect x (acting x a)
   acts a g =
-      tells_if (is_ok (answer_to x a)) _ _ _ a.says
+      effect_if (is_ok (answer_to x a)) _ _ _ a.says
       (λ e.
       let ok = then_right a.grounds (entry_answer x a.says) e in
       record { held = held_with_all a.says ok; only = held_with_only a.says ok; grown = g })
 
   -- a call that stamps nothing
-  stamps_nothing : (a : Action) → a.stamped ≡ x.stamped → Tells x (acting x a)
+  stamps_nothing : (a : Action) → a.stamped ≡ x.stamped → Effect x (acting x a)
   stamps_nothing a e = acts a (subst (λ (ops : List ℕ). Grown (book x.stamped) (book ops)) (sym e) (grown_refl (book x.stamped)))
 
 module _ (u : Setup) (V : Service) where
-  pub tells : (x : State) (c : Call) → Tells x (meaning u V x c)
-  tells x (Stamp op) = acts x (stamp x op) (book_push x.stamped op)
-  tells x (Deliver i s) = stamps_nothing x (deliver u V x i s) refl
-  tells x (Find i) = stamps_nothing x (find u x i) refl
-  tells x (Drop i) = stamps_nothing x (drop u x i) refl
-  tells x (Decide i s d) = stamps_nothing x (decide u x i s d) refl
-  tells x (Prepare i s d) = stamps_nothing x (prepare u x i s d) refl
-  tells x (Commit i s d) = stamps_nothing x (commit u x i s d) refl
-  tells x (Settle i s d) = stamps_nothing x (settle u x i s d) refl
-  tells x (Reply i s) = stamps_nothing x (reply u V x i s) refl
-  tells x (Leave i t) = stamps_nothing x (leave u x i t) refl
-  tells x (Forge r) = stamps_nothing x (forge u x r) refl
-  tells x (Lead i ps n w) = stamps_nothing x (lead u x i ps n w) refl
-  tells x (Start i ps n w) = stamps_nothing x (start u x i ps n w) refl
-  tells x (Enter i n w v) = stamps_nothing x (enter u x i n w v) refl
-  tells x (AskAnswer b v s w a) = nothing_new x _ _
-  tells x (AskNoOp b v s) = nothing_new x _ _
+  pub effect : (x : State) (c : Call) → Effect x (meaning u V x c)
+  effect x (Stamp op) = acts x (stamp x op) (book_push x.stamped op)
+  effect x (Deliver i s) = stamps_nothing x (deliver u V x i s) refl
+  effect x (Find i) = stamps_nothing x (find u x i) refl
+  effect x (Drop i) = stamps_nothing x (drop u x i) refl
+  effect x (Decide i s d) = stamps_nothing x (decide u x i s d) refl
+  effect x (Prepare i s d) = stamps_nothing x (prepare u x i s d) refl
+  effect x (Commit i s d) = stamps_nothing x (commit u x i s d) refl
+  effect x (Settle i s d) = stamps_nothing x (settle u x i s d) refl
+  effect x (Reply i s) = stamps_nothing x (reply u V x i s) refl
+  effect x (Leave i t) = stamps_nothing x (leave u x i t) refl
+  effect x (Forge r) = stamps_nothing x (forge u x r) refl
+  effect x (Lead i ps n w) = stamps_nothing x (lead u x i ps n w) refl
+  effect x (Start i ps n w) = stamps_nothing x (start u x i ps n w) refl
+  effect x (Enter i n w v) = stamps_nothing x (enter u x i n w v) refl
+  effect x (AskAnswer b v s w a) = nothing_new x _ _
+  effect x (AskNoOp b v s) = nothing_new x _ _
 
   -- ---- what the register holds after calls
 
@@ -117,16 +117,16 @@ module _ (u : Setup) (V : Service) where
   held_after_calls [] x r (inl h) = h
   held_after_calls [] x r (inr e) = absurd e
   held_after_calls (c ∷ cs) x r (inl h) =
-      held_after_calls cs (meaning u V x c).after r (inl ((tells x c).held r (inl h)))
+      held_after_calls cs (meaning u V x c).after r (inl ((effect x c).held r (inl h)))
   held_after_calls (c ∷ cs) x r (inr (inl e)) =
-      held_after_calls cs (meaning u V x c).after r (inl ((tells x c).held r (inr e)))
+      held_after_calls cs (meaning u V x c).after r (inl ((effect x c).held r (inr e)))
   held_after_calls (c ∷ cs) x r (inr (inr e)) = held_after_calls cs (meaning u V x c).after r (inr e)
 
   pub only_by_calls :
       (cs : List Call) (x : State) (r : Record) → Said (run u V x cs).held r → (Said x.held r) ⊎ Enters u V x cs r
   only_by_calls [] x r h = inl h
   only_by_calls (c ∷ cs) x r h = elim (only_by_calls cs (meaning u V x c).after r h) [
-    | inl s ↦ elim ((tells x c).only r s) [ inl t ↦ inl t | inr e ↦ inr (inl e) ]
+    | inl s ↦ elim ((effect x c).only r s) [ inl t ↦ inl t | inr e ↦ inr (inl e) ]
     | inr e ↦ inr (inr e)
   ]
 
@@ -174,14 +174,14 @@ entered_of_held y k r h = elim (only_by_calls y.bench y.service (take k y.calls)
 
 pub held_on : (y : Life) (j k : ℕ) → j ≤ k → (r : Record) → Said (state_at y j).held r → Said (state_at y k).held r
 held_on y j k le r h =
-    kept_on y.bench y.service (λ x. Said x.held r) (λ x c t. (tells y.bench y.service x c).held r (inl t)) y.calls
+    kept_on y.bench y.service (λ x. Said x.held r) (λ x c t. (effect y.bench y.service x c).held r (inl t)) y.calls
     (opened y.places) j k le h
 
 pub stamped_on : (y : Life) (j k : ℕ) → j ≤ k → Grown (book (state_at y j).stamped) (book (state_at y k).stamped)
 stamped_on y j k le =
     let b = book (state_at y j).stamped in
     kept_on y.bench y.service (λ x. Grown b (book x.stamped))
-    (λ x c g l o e. (tells y.bench y.service x c).grown l o (g l o e)) y.calls (opened y.places) j k le (grown_refl b)
+    (λ x c g l o e. (effect y.bench y.service x c).grown l o (g l o e)) y.calls (opened y.places) j k le (grown_refl b)
 
 -- ---- signers
 

@@ -1,36 +1,38 @@
 -- What holds of every model that a bench comes to.
---   Tidy v t w                — a view, a target and a sealed word of an honest replica
---   Based u h v b w           — the word w agrees below the length b with the line that view v starts from
---   Line u h B i v b n w      — the line of replica i in view v: base length b, length n, word w
---   Reply u V h B i v n ..    — a REPLY of replica i, now in view v with a line of length n
---   Prepare u h v l d         — a PREPARE of view v for slot l
---   Commit u h B v w ..       — a COMMIT of a replica that is now in view v with the sealed word w
---   Change h i t ..           — a VIEW-CHANGE of replica i, whose target is now t
---   Pledge h v t n w j        — replica j said a VIEW-CHANGE for v that the line n, w of the merge from view t covers
---   Merged u h B v n w        — the line n, w is a merge for view v
---   Ready u h B v t m ..      — an ENTRY of a replica that is now in view v with the target t and the mark m
---   Bound k, Rivals x y       — the kinds of which an honest replica says one content only, and two such statements
---   Once h i                  — replica i said one content only of each
---   Fact u V h B i r x        — what holds of a statement x of replica i, which is now r
---   Good u V h B i r          — what holds of the honest replica i, which is now r
---   Inv u V m                 — what holds of the model m
+--   Bounds v t w            — a view, a target and a sealed word of an honest replica
+--   Based u h v b w         — the word w agrees below the length b with the line that view v starts from
+--   Line u h B i v b n w    — the line of replica i in view v: base length b, length n, word w
+--   Reply u V h B i v n ..  — a REPLY of replica i, now in view v with a line of length n
+--   Prepare u h v l d       — a PREPARE of view v for slot l
+--   Commit u h B v w ..     — a COMMIT of a replica that is now in view v with the sealed word w
+--   Change h i t ..         — a VIEW-CHANGE of replica i, whose target is now t
+--   Covers h v t n w j      — replica j said a VIEW-CHANGE for v that the line n, w of the merge from view t covers
+--   Merged u h B v n w      — the line n, w is a merge for view v
+--   Ready u h B v t m ..    — an ENTRY of a replica that is now in view v with the target t and the mark m
+--   Unique k                — the kinds of which an honest replica says one content only: PREPARE, by view and slot; VIEW-CHANGE and ENTRY, by view
+--   Competing x y           — two statements of such a kind that an honest replica says only if they are one
+--   Once h i                — replica i said no two of these that differ
+--   Past v v'               — a statement of view v', by a replica that is now in view v
+--   Fact u V h B i r x      — what holds of a statement x of replica i, which is now r
+--   Good u V h B i r        — what holds of the honest replica i, which is now r
+--   Inv u V m               — what holds of the model m
 -- u is the bench's setup, V its service, h all that was said, B the book of the stamped operations.
-use Rattle.std.proofs.Common.{◌≡◌, ℕ, ◌^◌, ◌<◌, ◌≤◌, Bool, true, false, ◌⊎◌, refl}
-use lib.ListN as list
+use Rattle.std.proofs.Common.{◌≡◌, ℕ, ◌^◌, ◌<◌, ◌≤◌, Bool, true, false, ◌⊎◌, length, refl}
 use Rattle.record.specs.Layout.{Layout}
 use Rattle.record.specs.Statements.{reply_by, drop_by, prepare_by, commit_by, view_change_by, entry_by}
 use Rattle.record.specs.declared.Record.{Record}
 use Rattle.register.specs.Sets.{Set}
 use Rattle.replica.specs.Words.{bit}
 use Rattle.replica.specs.declared.Replica.{Replica}
-use Rattle.protocol.specs.Setup.{Setup, replicas, foreign, Few, Many, QuorumSaid}
+use Rattle.protocol.specs.Setup.{Setup, replicas, foreign, Many, QuorumSaid}
 use Rattle.protocol.specs.Service.{Service, Book, Known, answer_at}
 use Rattle.protocol.specs.Model.{Model, stamps}
 use Rattle.protocol.specs.Rules.{Said, Started, Upto}
+use Rattle.protocol.proofs.Counting.{Few}
 
-pub record Tidy (v t w : ℕ) : Type 0 where
+pub record Bounds (v t w : ℕ) : Type 0 where
   pub ahead : v ≤ t
-  pub bound : t ≤ 63
+  pub most : t ≤ 63
   pub small : w < 2 ^ 64
 
 pub record Based (u : Setup) (h : Set) (v b w : ℕ) : Type 0 where
@@ -39,7 +41,6 @@ pub record Based (u : Setup) (h : Set) (v b w : ℕ) : Type 0 where
   pub below : (l : ℕ) → l < b → bit w l ≡ bit base_word l
 
 pub record Line (u : Setup) (h : Set) (B : Book) (i v b n w : ℕ) : Type 0 where
-  pub order : b ≤ n
   pub known : (l : ℕ) → l < n → Known B l
   pub small : w < 2 ^ n
   pub based : Based u h v b w
@@ -76,7 +77,7 @@ pub record Change (h : Set) (i t v last n w : ℕ) : Type 0 where
   pub replies : (v' s w' a : ℕ) → v' < v → Said h (reply_by i v' s w' a) → (v' ≤ last) × (v' ≡ last → s < n)
   pub commits : (v' l : ℕ) → v' < v → Said h (commit_by i v' l 1) → (v' ≤ last) × (v' ≡ last → (bit w l ≡ true) × (l < n))
 
-pub record Pledge (h : Set) (v t n w j : ℕ) : Type 0 where
+pub record Covers (h : Set) (v t n w j : ℕ) : Type 0 where
   pub last : ℕ
   pub reach : ℕ
   pub word : ℕ
@@ -98,28 +99,26 @@ pub record Merged (u : Setup) (h : Set) (B : Book) (v n w : ℕ) : Type 0 where
   -- the signers of the picks
   pub signs : ℕ → Bool
   pub many : Many u signs
-  pub pledged : (j : ℕ) → j < replicas u → signs j ≡ true → Pledge h v top n w j
+  pub covers : (j : ℕ) → j < replicas u → signs j ≡ true → Covers h v top n w j
 
 pub record Ready (u : Setup) (h : Set) (B : Book) (v t : ℕ) (m : Bool) (v' n w : ℕ) : Type 0 where
   pub past : v' ≤ t
   pub marked : v' ≡ t → v < t → m ≡ true
   pub merged : Merged u h B v' n w
 
--- PREPARE, by view and slot; VIEW-CHANGE and ENTRY, by view
-abbrev pub Bound : ℕ → Type 0
-Bound k = (k ≡ 5) ⊎ ((k ≡ 7) ⊎ (k ≡ 9))
+abbrev pub Unique : ℕ → Type 0
+Unique k = (k ≡ 5) ⊎ ((k ≡ 7) ⊎ (k ≡ 9))
 
-pub record Rivals (x y : Record) : Type 0 where
-  pub bound : Bound x.kind
+pub record Competing (x y : Record) : Type 0 where
+  pub unique : Unique x.kind
   pub kinds : x.kind ≡ y.kind
   pub signers : x.signer ≡ y.signer
   pub views : x.view ≡ y.view
   pub slots : x.kind ≡ 5 → x.slot ≡ y.slot
 
 abbrev pub Once : Set → ℕ → Type 0
-Once h i = (x y : Record) → x.signer ≡ i → Said h x → Said h y → Rivals x y → x ≡ y
+Once h i = (x y : Record) → x.signer ≡ i → Said h x → Said h y → Competing x y → x ≡ y
 
--- a statement of view v', by a replica that is now in view v
 pub record Past (v v' : ℕ) : Type 0 where
   pub old : v' ≤ v
 
@@ -132,14 +131,14 @@ pub record Fact (u : Setup) (V : Service) (h : Set) (B : Book) (i : ℕ) (r : Re
   pub entry : x.kind ≡ 9 → Ready u h B r.view r.target r.mark x.view x.slot x.word
 
 pub record Good (u : Setup) (V : Service) (h : Set) (B : Book) (i : ℕ) (r : Replica) : Type 0 where
-  pub tidy : Tidy r.view r.target r.sealed
+  pub bounds : Bounds r.view r.target r.sealed
   pub line : Line u h B i r.view r.base r.length r.word
   pub facts : (x : Record) → x.signer ≡ i → Said h x → Fact u V h B i r x
   pub once : Once h i
 
 pub record Inv (u : Setup) (V : Service) (m : Model) : Type 0 where
   pub few : Few u
-  pub short : list.length m.stamped ≤ 64
+  pub short : length m.stamped ≤ 64
   pub layout : (x : Record) → Said m.held x → Layout x
   pub good : (i : ℕ) → foreign u i ≡ false → Good u V m.held (stamps m) i (m.replica i)
 

@@ -4,39 +4,42 @@ use Rattle.std.proofs.lemmas.Bool.{both_ways, eqb-true, eqb-false}
 use Rattle.record.specs.Layout.{Layout}
 use Rattle.record.specs.Statements.{entry_by}
 use Rattle.record.specs.declared.Record.{Record}
-use Rattle.register.specs.Sets.{Set, added}
+use Rattle.register.specs.Sets.{Set, nothing, added}
 use Rattle.quorum.specs.Quorums.{said}
 use Rattle.replica.specs.Words.{bit}
-use Rattle.replica.specs.Replicas.{delivered, committed, settled, left, started, entered}
+use Rattle.replica.specs.Replicas.{still, delivered, committed, settled, left, started, entered}
 use Rattle.replica.specs.declared.Replica.{Replica}
 use Rattle.replica.proofs.Words.{bit_above, one_past_over}
 use Rattle.merge.specs.Merges.{merge}
-use Rattle.protocol.specs.Setup.{Setup, foreign, Few}
+use Rattle.protocol.specs.Setup.{Setup, foreign}
 use Rattle.protocol.specs.Service.{Service, Known}
-use Rattle.protocol.specs.Model.{Model, stamps, start, placed, Move, stamping, forges, becomes, says, apply, Entry}
-use Rattle.protocol.specs.Rules.{Allowed, Said, Started, rest, stamp, deliver, find, drop, decide, prepare, commit, settle, reply, leave, forge, lead, begin, enter}
+use Rattle.protocol.specs.Model.{Model, stamps, placed, Move, stamping, forges, becomes, says, apply, Entry}
+use Rattle.protocol.specs.Rules.{Allowed, Said, Started, rest, stamp, deliver, find, drop, decide, prepare, commit, settle, reply, leave, forge, lead, start, enter}
 use Rattle.protocol.proofs.Books.{book_push, grown_refl, stamped_below}
-use Rattle.protocol.proofs.Counting.{member}
+use Rattle.protocol.proofs.Counting.{Few, member}
 use Rattle.protocol.proofs.Saying.{added_cases, added_grows}
 use Rattle.protocol.proofs.Invariant.{Inv, Good}
 use Rattle.protocol.proofs.Later.{good_later, silent_other}
 use Rattle.protocol.proofs.Speaking.{plain_good, deliver_good, reply_good}
 use Rattle.protocol.proofs.Voting.{prepare_good, commit_good, settle_good}
-use Rattle.protocol.proofs.Moving.{leave_good, begin_good, enter_good}
+use Rattle.protocol.proofs.Moving.{leave_good, start_good, enter_good}
 use Rattle.protocol.proofs.Merging.{started_bounds, merged}
 
-pub start_inv : (u : Setup) (V : Service) → Few u → Inv u V start
-start_inv u V few =
+-- a model as a bench opens
+abbrev pub opening : Model
+opening = record { stamped = []; held = nothing; replica = λ _. still }
+
+pub opening_inv : (u : Setup) (V : Service) → Few u → Inv u V opening
+opening_inv u V few =
     record {
       few = few;
       short = omega arith;
       layout = λ x e. absurd (both_ways false refl e);
       good = λ i f.
           record {
-            tidy = omega arith;
+            bounds = omega arith;
             line =
                 record {
-                  order = omega arith;
                   known = λ l p. absurd (omega arith);
                   small = omega arith;
                   based = record { base_word = 0; started = inl (refl, refl, refl); below = λ l p. refl };
@@ -144,13 +147,13 @@ module _ (u : Setup) (V : Service) (m : Model) (I : Inv u V m) where
   allowed_inv a (leave i t f p q) v =
       says_inv i (left (m.replica i) t) _ refl v
       (leave_good u V m.held (stamps m) i (m.replica i) (I.good i f) t _ _ p q (omega arith)
-      (λ l e. (e, omega (arith, one_past_over (m.replica i).sealed l (I.good i f).tidy.small e))))
+      (λ l e. (e, omega (arith, one_past_over (m.replica i).sealed l (I.good i f).bounds.small e))))
   allowed_inv a (lead i ps b w e C) v =
       says_inv i (m.replica i) _ refl v
       (plain_good u V m.held (stamps m) i (m.replica i) (I.good i w.honest) _ (omega arith) (λ k. absurd (omega arith)) (λ k. absurd (omega arith)))
-  allowed_inv a (begin i ps b w k e C) v =
+  allowed_inv a (start i ps b w k e C) v =
       says_inv i (started (m.replica i)) _ refl v
-      (begin_good u V m.held (stamps m) i (m.replica i) (I.good i w.honest) (merge b ps).0 (merge b ps).1
+      (start_good u V m.held (stamps m) i (m.replica i) (I.good i w.honest) (merge b ps).0 (merge b ps).1
       w.leaving k (merged u V m I (m.replica i).target ps b C (omega (arith, w.leaving))))
   allowed_inv a (enter i t n w f p q Q) v =
       let E : Started u m.held t (n, w) = inr (omega arith, Q) in

@@ -1,4 +1,7 @@
 -- What holds of a replica and of its statements outlasts more statements and more operations.
+--   Turn h h' i r r'  — what replica i, as it becomes r' where it was r, and h' is all that was said where it was h, leaves of its other statements
+--   OtherKind k       — the kind k is not REPLY, DROP or COMMIT
+--   Silent h h' j     — replica j said nothing in h' that it had not said in h
 use Rattle.std.proofs.Common.{◌≡◌, ℕ, ◌<◌, ◌≤◌, Bool, true, ◌⊎◌, sym, refl, ◌∙◌, subst, inl, inr, arith}
 use Rattle.record.specs.Statements.{reply_by, drop_by, prepare_by, commit_by}
 use Rattle.record.specs.declared.Record.{Record}
@@ -10,7 +13,7 @@ use Rattle.protocol.specs.Service.{Service, Book, Known}
 use Rattle.protocol.specs.Rules.{Said}
 use Rattle.protocol.proofs.Books.{Grown, grown_refl, grown_same, answer_alike}
 use Rattle.protocol.proofs.Saying.{signer_of, added_cases, added_other, Grows, added_grows, quorum_grows, started_grows, once_more}
-use Rattle.protocol.proofs.Invariant.{Tidy, Based, Line, Reply, Prepare, Commit, Change, Merged, Ready, Fact, Rivals, Good}
+use Rattle.protocol.proofs.Invariant.{Bounds, Based, Line, Reply, Prepare, Commit, Change, Merged, Ready, Fact, Competing, Good}
 
 module _ (u : Setup) (h h' : Set) (g : Grows h h') (B B' : Book) (w : Grown B B') where
   pub known_later : {l : ℕ} → Known B l → Known B' l
@@ -26,7 +29,6 @@ module _ (u : Setup) (h h' : Set) (g : Grows h h') (B B' : Book) (w : Grown B B'
       → Line u h' B' i v b n x
   line_later {v = v} own L =
       record {
-        order = L.order;
         known = λ l q. known_later (L.known l q);
         small = L.small;
         based = based_later L.based;
@@ -98,8 +100,8 @@ module _ (u : Setup) (h h' : Set) (g : Grows h h') (B B' : Book) (w : Grown B B'
         above = λ l q e. quorum_grows u h h' g (prepare_by 0 M.top l 1) (M.above l q e);
         signs = M.signs;
         many = M.many;
-        pledged = λ j q e.
-            let P = M.pledged j q e in
+        covers = λ j q e.
+            let P = M.covers j q e in
             record { last = P.last; reach = P.reach; word = P.word; said = g _ P.said; under = P.under; within = P.within; bits = P.bits };
       }
 
@@ -110,7 +112,6 @@ module _ (u : Setup) (h h' : Set) (g : Grows h h') (B B' : Book) (w : Grown B B'
   ready_later q f E =
       record { past = omega (arith, E.past); marked = f E.past E.marked; merged = merged_later E.merged }
 
--- what a step of replica i, from r to r', leaves of its other statements
 pub record Turn (h h' : Set) (i : ℕ) (r r' : Replica) : Type 0 where
   pub grows : Grows h h'
   pub view : (r.view < r'.view) ⊎ ((r.view ≡ r'.view) × (r.length ≤ r'.length) × ((l : ℕ) → bit r.sealed l ≡ true → bit r'.sealed l ≡ true))
@@ -138,19 +139,18 @@ stays h h' i r g d p c =
       commits = c;
     }
 
--- the kind k is not REPLY, DROP or COMMIT
-pub record Aside (k : ℕ) : Type 0 where
+pub record OtherKind (k : ℕ) : Type 0 where
   pub reply : k ≡ 1 → ⊥
   pub drop : k ≡ 3 → ⊥
   pub commit : k ≡ 6 → ⊥
 
 -- a turn by a statement x of such a kind
-pub aside :
-    (h : Set) (i : ℕ) (r r' : Replica) (x : Record) → Aside x.kind
+pub by_other_kind :
+    (h : Set) (i : ℕ) (r r' : Replica) (x : Record) → OtherKind x.kind
     → (r.view ≡ r'.view) × (r.length ≤ r'.length) × ((l : ℕ) → bit r.sealed l ≡ true → bit r'.sealed l ≡ true) → r.target ≤ r'.target
     → ((t : ℕ) → t ≤ r.target → (t ≡ r.target → r.view < r.target → r.mark ≡ true) → t ≡ r'.target → r'.view < r'.target → r'.mark ≡ true)
     → Turn h (added h x) i r r'
-aside h i r r' x A view target mark =
+by_other_kind h i r r' x A view target mark =
     record {
       grows = added_grows h x;
       view = inr view;
@@ -199,7 +199,6 @@ module _ (u : Setup) (V : Service) (h h' : Set) (B B' : Book) (w : Grown B B') (
         entry = λ k. let E = F.entry k in ready_later u h h' g B B' w T.target (λ p f. T.mark x.view p f) E;
       }
 
--- replica j has said nothing new
 abbrev pub Silent : Set → Set → ℕ → Type 0
 Silent h h' j = (y : Record) → y.signer ≡ j → Said h' y → Said h y
 
@@ -209,7 +208,7 @@ pub good_later :
 good_later u V h h' B B' j r g w O G =
     let T = stays h h' j r g (λ v s l n p. O (drop_by j v l) refl) (λ v s x a p. O (reply_by j v s x a) refl) (λ v l p. O (commit_by j v l 1) refl) in
     record {
-      tidy = G.tidy;
+      bounds = G.bounds;
       line = line_kept u V h h' B B' w j r r T refl refl refl refl G.line;
       facts = λ x s e. fact_later u V h h' B B' w j r r T x (G.facts x s (O x s e));
       once = λ x y s e f k. G.once x y s (O x s e) (O y (sym k.signers ∙ s) f) k;
@@ -222,12 +221,12 @@ silent_other x h j n y p e = elim (added_cases h x y e) [ inl q ↦ absurd (n (s
 -- replica i says x and becomes r', or only becomes r'
 module _ (u : Setup) (V : Service) (h : Set) (B : Book) (i : ℕ) (r r' : Replica) (G : Good u V h B i r) where
   pub speak_good :
-      (x : Record) → Turn h (added h x) i r r' → Tidy r'.view r'.target r'.sealed
+      (x : Record) → Turn h (added h x) i r r' → Bounds r'.view r'.target r'.sealed
       → Line u (added h x) B i r'.view r'.base r'.length r'.word → Fact u V (added h x) B i r' x
-      → ((y : Record) → Said h y → Rivals x y → x ≡ y) → Good u V (added h x) B i r'
+      → ((y : Record) → Said h y → Competing x y → x ≡ y) → Good u V (added h x) B i r'
   speak_good x T N L F new =
       record {
-        tidy = N;
+        bounds = N;
         line = L;
         facts = λ y s e. elim (added_cases h x y e) [
           | inl q ↦ subst (Fact u V (added h x) B i r') q F
@@ -237,11 +236,11 @@ module _ (u : Setup) (V : Service) (h : Set) (B : Book) (i : ℕ) (r r' : Replic
       }
 
   pub turn_good :
-      Turn h h i r r' → Tidy r'.view r'.target r'.sealed → Line u h B i r'.view r'.base r'.length r'.word
+      Turn h h i r r' → Bounds r'.view r'.target r'.sealed → Line u h B i r'.view r'.base r'.length r'.word
       → Good u V h B i r'
   turn_good T N L =
       record {
-        tidy = N;
+        bounds = N;
         line = L;
         facts = λ y s e. fact_later u V h h B B (grown_refl B) i r r' T y (G.facts y s e);
         once = G.once;

@@ -11,7 +11,7 @@ use Rattle.replica.proofs.Words.{one_past_under, one_past_most}
 use Rattle.protocol.specs.Setup.{Setup, foreign}
 use Rattle.protocol.specs.Service.{Service, Book, answer_at, Short}
 use Rattle.protocol.specs.Model.{Model, stamps, Move, rests, stamping, forges, becomes, says}
-use Rattle.protocol.specs.Rules.{Allowed, rest, stamp, deliver, find, drop, decide, prepare, commit, settle, reply, leave, forge, lead, begin, enter}
+use Rattle.protocol.specs.Rules.{Allowed, rest, stamp, deliver, find, drop, decide, prepare, commit, settle, reply, leave, forge, lead, start, enter}
 use Rattle.protocol.proofs.Books.{all_stamped}
 use Rattle.protocol.proofs.Invariant.{Inv}
 use Rattle.protocol.proofs.Keeping.{slot_low}
@@ -47,23 +47,23 @@ module _ (u : Setup) (V : Service) (short : Short V) (m : Model) (I : Inv u V m)
   allowed_layout a (enter i t n w f p q Q) = tt
   allowed_layout a (deliver i w p d) =
       let G = I.good i w.honest in
-      λ low. omega (arith, low, G.tidy, G.line.small, slot_low u V m I (m.replica i).length (p (m.replica i).length (omega arith)), answer_small (stamps m) (m.replica i).word (m.replica i).length)
+      λ low. omega (arith, low, G.bounds, G.line.small, slot_low u V m I (m.replica i).length (p (m.replica i).length (omega arith)), answer_small (stamps m) (m.replica i).word (m.replica i).length)
   allowed_layout a (find i w e p) =
-      λ low. omega (arith, low, (I.good i w.honest).tidy, slot_low u V m I (m.replica i).length p, pow_pos (m.replica i).length)
+      λ low. omega (arith, low, (I.good i w.honest).bounds, slot_low u V m I (m.replica i).length p, pow_pos (m.replica i).length)
   allowed_layout a (drop i w e p) =
-      λ low. omega (arith, low, (I.good i w.honest).tidy, slot_low u V m I (m.replica i).length p, pow_pos (m.replica i).length)
+      λ low. omega (arith, low, (I.good i w.honest).bounds, slot_low u V m I (m.replica i).length p, pow_pos (m.replica i).length)
   allowed_layout a (decide i s d w O e q n) =
-      λ low. omega (arith, low, (I.good i w.honest).tidy, slot_low u V m I s O.known, pow_pos s, verdict_small d)
+      λ low. omega (arith, low, (I.good i w.honest).bounds, slot_low u V m I s O.known, pow_pos s, verdict_small d)
   allowed_layout a (prepare i s d w O e q n) =
-      λ low. omega (arith, low, (I.good i w.honest).tidy, slot_low u V m I s O.known, pow_pos s, verdict_small d)
+      λ low. omega (arith, low, (I.good i w.honest).bounds, slot_low u V m I s O.known, pow_pos s, verdict_small d)
   allowed_layout a (commit i s d w O q) =
-      λ low. omega (arith, low, (I.good i w.honest).tidy, slot_low u V m I s O.known, pow_pos s, verdict_small d)
+      λ low. omega (arith, low, (I.good i w.honest).bounds, slot_low u V m I s O.known, pow_pos s, verdict_small d)
   allowed_layout a (reply i s w p q z) =
-      λ low. omega (arith, low, (I.good i w.honest).tidy, slot_low u V m I s (p s (omega arith)), mod-lt (m.replica i).word (pow_pos s), answer_small (stamps m) (m.replica i).word s)
+      λ low. omega (arith, low, (I.good i w.honest).bounds, slot_low u V m I s (p s (omega arith)), mod-lt (m.replica i).word (pow_pos s), answer_small (stamps m) (m.replica i).word s)
   allowed_layout a (leave i t f p q) =
       let G = I.good i f in
-      λ low. omega (arith, low, p, q, G.tidy, reach_small (m.replica i) G.tidy.small, line_short i f, one_past_most (m.replica i).sealed)
+      λ low. omega (arith, low, p, q, G.bounds, reach_small (m.replica i) G.bounds.small, line_short i f, one_past_most (m.replica i).sealed)
   allowed_layout a (lead i ps b w e C) =
-      λ low. omega (arith, low, w.leaving, (I.good i w.honest).tidy, merge_small u V m I (m.replica i).target ps b C, merge_stamped u V m I (m.replica i).target ps b C, I.short)
-  allowed_layout a (begin i ps b w k e C) =
-      λ low. omega (arith, low, w.leaving, (I.good i w.honest).tidy, merge_small u V m I (m.replica i).target ps b C, merge_stamped u V m I (m.replica i).target ps b C, I.short)
+      λ low. omega (arith, low, w.leaving, (I.good i w.honest).bounds, merge_small u V m I (m.replica i).target ps b C, merge_stamped u V m I (m.replica i).target ps b C, I.short)
+  allowed_layout a (start i ps b w k e C) =
+      λ low. omega (arith, low, w.leaving, (I.good i w.honest).bounds, merge_small u V m I (m.replica i).target ps b C, merge_stamped u V m I (m.replica i).target ps b C, I.short)

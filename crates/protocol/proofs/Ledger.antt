@@ -4,7 +4,6 @@ use Rattle.replica.specs.Replicas.{still}
 use Rattle.protocol.specs.Setup.{Setup}
 use Rattle.protocol.specs.Service.{Service}
 use Rattle.protocol.specs.State.{State, opened}
-use Rattle.protocol.specs.Model.{start}
 use Rattle.protocol.specs.Call.{Call, meaning}
 use Rattle.protocol.specs.Life.{Life, state_at}
 use Rattle.protocol.specs.Law.{OneLedgerAlways}
@@ -13,7 +12,7 @@ use Rattle.protocol.proofs.Invariant.{Inv}
 use Rattle.protocol.proofs.Opening.{bound_of_open, few_of_open}
 use Rattle.protocol.proofs.Stepping.{Sound}
 use Rattle.protocol.proofs.Calls.{call_step}
-use Rattle.protocol.proofs.Keeping.{start_inv, allowed_inv}
+use Rattle.protocol.proofs.Keeping.{opening, opening_inv, allowed_inv}
 use Rattle.protocol.proofs.Entries.{kept_after}
 use Rattle.protocol.proofs.Witness.{witness}
 use Rattle.protocol.proofs.Lives.{ledger}
@@ -23,7 +22,7 @@ sound_next u V x c S =
     let K = call_step u V x S c in
     record {
       inv = subst (Inv u V) (sym K.step.moves) (allowed_inv u V (model x) S.inv K.step.move K.step.allowed K.step.entry);
-      bound = S.bound;
+      faults = S.faults;
       room = K.room;
     }
 
@@ -32,16 +31,16 @@ all_still zero j = refl
 all_still (suc n) zero = refl
 all_still (suc n) (suc j) = all_still n j
 
-opens_at_start : (n : ℕ) → start ≡ model (opened n)
-opens_at_start n k =
-    record { stamped = start.stamped; held = start.held; replica = λ j. sym (all_still 16 j) k }
+opens_as_model : (n : ℕ) → opening ≡ model (opened n)
+opens_as_model n k =
+    record { stamped = opening.stamped; held = opening.held; replica = λ j. sym (all_still 16 j) k }
 
 state_sound : (y : Life) (k : ℕ) → Sound y.bench y.service (state_at y k)
 state_sound y k =
     kept_after y.bench y.service (Sound y.bench y.service) (sound_next y.bench y.service) (take k y.calls) (opened y.places)
     (record {
-      inv = subst (Inv y.bench y.service) (opens_at_start y.places) (start_inv y.bench y.service (few_of_open y.bench y.opens));
-      bound = bound_of_open y.bench y.opens;
+      inv = subst (Inv y.bench y.service) (opens_as_model y.places) (opening_inv y.bench y.service (few_of_open y.bench y.opens));
+      faults = bound_of_open y.bench y.opens;
       room = refl;
     })
 

@@ -1,5 +1,6 @@
 -- The merge of good picks is a merge as the invariant has it.
-use Rattle.std.proofs.Common.{◌≡◌, ℕ, ◌^◌, ◌<◌, ◌≤◌, true, ◌⊎◌, List, [], ◌∷◌, length, map, sym, ap, ◌∙◌, subst, inl, inr, arith, pow_pos, pow_mono, lt_of_lt_of_le}
+--   Pick u m v t n w p  — all that a merge with the line n, w for view v, from view t, needs to know of its pick p
+use Rattle.std.proofs.Common.{◌≡◌, ℕ, ◌^◌, ◌<◌, ◌≤◌, true, ◌⊎◌, List, [], ◌∷◌, length, sym, ap, ◌∙◌, subst, inl, inr, arith, pow_pos, pow_mono, lt_of_lt_of_le}
 use Rattle.std.proofs.ByRecursion.{All-weaker, All-map}
 use Rattle.std.proofs.lemmas.Bool.{both_ways, cases_lt, cases_Bool}
 use Rattle.std.proofs.lemmas.List.{length-map}
@@ -11,10 +12,8 @@ use Rattle.quorum.specs.Quorums.{said}
 use Rattle.replica.specs.Words.{bit}
 use Rattle.replica.proofs.Words.{bit_above}
 use Rattle.merge.specs.Merges.{top, merged_length, merged_word, merge}
-use Rattle.merge.specs.Checks as checks
-use Rattle.merge.specs.Checks.{Picked}
+use Rattle.merge.specs.Checks.{signers, Picked}
 use Rattle.merge.proofs.Lines.{top_over, top_below, length_base, length_picks, length_least, word_below, word_base, word_picks, word_from}
-use Rattle.protocol.specs.Law.{Different}
 use Rattle.protocol.specs.Setup.{Setup, replicas, quorum_size, QuorumSaid}
 use Rattle.protocol.specs.Service.{Service, Known}
 use Rattle.protocol.specs.Model.{Model, stamps}
@@ -23,19 +22,9 @@ use Rattle.protocol.proofs.Books.{known_below, all_stamped}
 use Rattle.protocol.proofs.Counting.{member}
 use Rattle.protocol.proofs.Signing.{among, among_passes, count_among}
 use Rattle.protocol.proofs.Saying.{as_view_change}
-use Rattle.protocol.proofs.Invariant.{Inv, Merged, Pledge}
+use Rattle.protocol.proofs.Invariant.{Inv, Merged, Covers}
 use Rattle.protocol.proofs.Agreement.{started_merged, prepare_from}
 
-signers : List Record → List ℕ
-signers ps = map (λ p. p.signer) ps
-
-different_signers : (ps : List Record) → checks.Different ps → Different (signers ps)
-unfolding signers
-different_signers [] d = tt
-different_signers (p ∷ ps) d =
-    (All-map (λ (j : ℕ). p.signer ≡ j → ⊥) (λ (o : Record). o.signer) ps d.0, different_signers ps d.1)
-
--- all that a merge needs to know of one pick
 record Pick (u : Setup) (m : Model) (v t n w : ℕ) (p : Record) : Type 0 where
   picked : Picked m.held (replicas u) (quorum_size u) (length m.stamped) v t p
   layout : Layout p
@@ -112,8 +101,8 @@ module _ (u : Setup) (V : Service) (m : Model) (I : Inv u V m) where
         base : b.0 ≤ length m.stamped
         base = all_stamped m.stamped b.0 (started_bounds (top ps) b C.base).0
 
-    pledge : (p : Record) → Pick u m v (top ps) n w p → Pledge m.held v (top ps) n w p.signer
-    pledge p P =
+    covering : (p : Record) → Pick u m v (top ps) n w p → Covers m.held v (top ps) n w p.signer
+    covering p P =
         record {
           last = p.last;
           reach = p.slot;
@@ -128,13 +117,13 @@ module _ (u : Setup) (V : Service) (m : Model) (I : Inv u V m) where
         }
 
     pub merged : 0 < v → Merged u m.held (stamps m) v (merge b ps).0 (merge b ps).1
-    unfolding n w signers
+    unfolding n w
     merged pos =
-        let pledges : AllByRecursion (λ j. Pledge m.held v (top ps) n w j) (signers ps) =
-        All-map (λ j. Pledge m.held v (top ps) n w j) (λ (p : Record). p.signer) ps (All-weaker _ _ pledge ps each) in
+        let pledges : AllByRecursion (λ j. Covers m.held v (top ps) n w j) (signers ps) =
+        All-map (λ j. Covers m.held v (top ps) n w j) (λ (p : Record). p.signer) ps (All-weaker _ _ covering ps each) in
         let low : AllByRecursion (λ j. j < replicas u) (signers ps) =
         All-map (λ j. j < replicas u) (λ (p : Record). p.signer) ps (All-weaker _ _ (λ p P. P.picked.signer) ps each) in
-        let counted = count_among (replicas u) (signers ps) (different_signers ps C.different) low in
+        let counted = count_among (replicas u) (signers ps) C.different low in
         record {
           top = top ps;
           base = b.0;
@@ -150,5 +139,5 @@ module _ (u : Setup) (V : Service) (m : Model) (I : Inv u V m) where
           ];
           signs = among (signers ps);
           many = omega (arith, C.number, counted, length-map ps (λ (p : Record). p.signer));
-          pledged = λ j q e. among_passes _ (signers ps) pledges j e;
+          covers = λ j q e. among_passes _ (signers ps) pledges j e;
         }

@@ -13,8 +13,8 @@ use Rattle.protocol.specs.Service.{Service, Book, Known}
 use Rattle.protocol.specs.Rules.{Said, Started}
 use Rattle.protocol.proofs.Books.{grown_refl}
 use Rattle.protocol.proofs.Saying.{added_other, added_grows}
-use Rattle.protocol.proofs.Invariant.{Merged, Rivals, Good}
-use Rattle.protocol.proofs.Later.{aside, line_kept, speak_good, turn_good, merged_later}
+use Rattle.protocol.proofs.Invariant.{Merged, Competing, Good}
+use Rattle.protocol.proofs.Later.{by_other_kind, line_kept, speak_good, turn_good, merged_later}
 
 module _ (u : Setup) (V : Service) (h : Set) (B : Book) (i : ℕ) (r : Replica) (G : Good u V h B i r) where
   -- the reach n and the word w of the VIEW-CHANGE cover the line and the sealed word
@@ -23,10 +23,10 @@ module _ (u : Setup) (V : Service) (h : Set) (B : Book) (i : ℕ) (r : Replica) 
       → Good u V (added h (view_change_by i t r.view n w)) B i (left r t)
   leave_good t n w p top over covered =
       let x = view_change_by i t r.view n w in
-      let T = aside h i r (left r t) x (omega arith) (refl, omega arith, λ l e. e) (omega arith) (λ v k f y z. absurd (omega arith)) in
-      let new : (y : Record) → Said h y → Rivals x y → x ≡ y =
+      let T = by_other_kind h i r (left r t) x (omega arith) (refl, omega arith, λ l e. e) (omega arith) (λ v k f y z. absurd (omega arith)) in
+      let new : (y : Record) → Said h y → Competing x y → x ≡ y =
       λ y e k. absurd (omega (arith, k.views, ((G.facts y (sym k.signers) e).change (sym k.kinds)).past)) in
-      speak_good u V h B i r (left r t) G x T (omega (arith, G.tidy))
+      speak_good u V h B i r (left r t) G x T (omega (arith, G.bounds))
       (line_kept u V h (added h x) B B (grown_refl B) i r (left r t) T refl refl refl refl G.line)
       (record {
         past = λ k. absurd (omega arith);
@@ -47,15 +47,15 @@ module _ (u : Setup) (V : Service) (h : Set) (B : Book) (i : ℕ) (r : Replica) 
       })
       new
 
-  pub begin_good :
+  pub start_good :
       (n w : ℕ) → r.view < r.target → r.mark ≡ false → Merged u h B r.target n w
       → Good u V (added h (entry_by i r.target n w)) B i (started r)
-  begin_good n w p z M =
+  start_good n w p z M =
       let x = entry_by i r.target n w in
-      let new : (y : Record) → Said h y → Rivals x y → x ≡ y =
+      let new : (y : Record) → Said h y → Competing x y → x ≡ y =
       λ y e k. absurd (both_ways r.mark z (((G.facts y (sym k.signers) e).entry (sym k.kinds)).marked (sym k.views) p)) in
-      let T = aside h i r (started r) x (omega arith) (refl, omega arith, λ l e. e) (omega arith) (λ t k f y q. refl) in
-      speak_good u V h B i r (started r) G x T G.tidy
+      let T = by_other_kind h i r (started r) x (omega arith) (refl, omega arith, λ l e. e) (omega arith) (λ t k f y q. refl) in
+      speak_good u V h B i r (started r) G x T G.bounds
       (line_kept u V h (added h x) B B (grown_refl B) i r (started r) T refl refl refl refl G.line)
       (record {
         past = λ k. absurd (omega arith);
@@ -83,7 +83,6 @@ module _ (u : Setup) (V : Service) (h : Set) (B : Book) (i : ℕ) (r : Replica) 
       })
       (omega arith)
       (record {
-        order = omega arith;
         known = k;
         small = m;
         based = record { base_word = w; started = E; below = λ l x. refl };

@@ -1,4 +1,5 @@
 -- What is said after one more statement, and what stays true of all that was said.
+--   Grows h h'  — the set h' has all that h has
 use Rattle.std.proofs.Common.{◌≡◌, ℕ, ◌⊎◌, sym, ap, ◌∙◌, subst, inl, inr, arith}
 use Rattle.std.proofs.lemmas.Bool.{or_left, or_cases}
 use Rattle.record.specs.Layout.{Layout}
@@ -11,7 +12,7 @@ use Rattle.quorum.specs.Quorums.{said}
 use Rattle.protocol.specs.Setup.{Setup, QuorumSaid}
 use Rattle.protocol.specs.Rules.{Said, Started}
 use Rattle.protocol.proofs.Counting.{many_mono}
-use Rattle.protocol.proofs.Invariant.{Bound, Rivals, Once}
+use Rattle.protocol.proofs.Invariant.{Unique, Competing, Once}
 
 -- the fields of equal statements
 pub signer_of : {x y : Record} → x ≡ y → x.signer ≡ y.signer
@@ -30,7 +31,6 @@ added_cases h x y e = elim (or_cases (h y) (same x y) e) [ inl p ↦ inr p | inr
 pub added_other : (h : Set) (x y : Record) → (x.kind ≡ y.kind → ⊥) → Said (added h x) y → Said h y
 added_other h x y n e = elim (added_cases h x y e) [ inl t ↦ absurd (n (ap (λ (z : Record). z.kind) t)) | inr t ↦ t ]
 
--- a later set has all that the earlier one has
 abbrev pub Grows : Set → Set → Type 0
 Grows h h' = (y : Record) → Said h y → Said h' y
 
@@ -77,10 +77,10 @@ as_view_change y l e =
       result = result i;
     }
 
-rivals_sym : (x y : Record) → Rivals x y → Rivals y x
-rivals_sym x y r =
+competing_sym : (x y : Record) → Competing x y → Competing y x
+competing_sym x y r =
     record {
-      bound = subst Bound r.kinds r.bound;
+      unique = subst Unique r.kinds r.unique;
       kinds = sym r.kinds;
       signers = sym r.signers;
       views = sym r.views;
@@ -88,14 +88,14 @@ rivals_sym x y r =
     }
 
 -- one content only, also after one more statement that has no rival
-pub once_more : (h : Set) (i : ℕ) (x : Record) → ((y : Record) → Said h y → Rivals x y → x ≡ y) → Once h i → Once (added h x) i
+pub once_more : (h : Set) (i : ℕ) (x : Record) → ((y : Record) → Said h y → Competing x y → x ≡ y) → Once h i → Once (added h x) i
 once_more h i x new old y z s e f r = elim (added_cases h x y e) [
   | inl p ↦ elim (added_cases h x z f) [
     | inl q ↦ sym p ∙ q
-    | inr q ↦ sym p ∙ new z q (subst (λ (w : Record). Rivals w z) (sym p) r)
+    | inr q ↦ sym p ∙ new z q (subst (λ (w : Record). Competing w z) (sym p) r)
   ]
   | inr p ↦ elim (added_cases h x z f) [
-    | inl q ↦ sym (new y p (subst (λ (w : Record). Rivals w y) (sym q) (rivals_sym y z r))) ∙ q
+    | inl q ↦ sym (new y p (subst (λ (w : Record). Competing w y) (sym q) (competing_sym y z r))) ∙ q
     | inr q ↦ old y z s p q r
   ]
 ]

@@ -1,16 +1,15 @@
 -- A quorum as a list of its signers, and as a count.
+--   among is i    — whether the number i stands in the list is
 --   Chosen n p q  — q different numbers below n that pass the test p
 use Rattle.std.proofs.Common.{◌≡◌, ℕ, zero, suc, ◌<◌, ◌≤◌, Bool, true, false, ◌||◌, ◌≢◌, eqb, List, [], ◌∷◌, length, sym, refl, ap, ◌∙◌, subst, inl, inr, arith}
 use Rattle.std.proofs.lemmas.Bool.{both_ways, cases_Bool, or_cases, or_from, ne_eqb, eqb-true}
 use Rattle.std.specs.List.{AllByRecursion}
 use Rattle.std.proofs.ByRecursion.{All-weaker}
-use Rattle.quorum.specs.Quorums.{count}
-use Rattle.protocol.specs.Law.{Different}
-use Rattle.protocol.proofs.Counting.{count_mono, count_none, weigh_ext, count_one_more}
+use Rattle.quorum.specs.Quorums.{Different, count}
+use Rattle.protocol.proofs.Counting.{count_mono, count_none, indicator_ext, count_one_more}
 
 -- ---- from a list to a count
 
--- whether a number stands in a list
 abbrev pub among : List ℕ → ℕ → Bool
 among [] i = false
 among (j ∷ js) i = eqb j i || among js i
@@ -75,6 +74,6 @@ unfolding count
 list_of_count n p zero h = choose_none n p
 list_of_count zero p (suc q) h = absurd (omega arith)
 list_of_count (suc n) p (suc q) h = elim (cases_Bool (p n)) [
-  | inl e ↦ choose_last n p q e (list_of_count n p q (omega (arith, weigh_ext (p n) true e)))
-  | inr e ↦ choose_under n p (suc q) (list_of_count n p (suc q) (omega (arith, weigh_ext (p n) false e)))
+  | inl e ↦ choose_last n p q e (list_of_count n p q (omega (arith, indicator_ext (p n) true e)))
+  | inr e ↦ choose_under n p (suc q) (list_of_count n p (suc q) (omega (arith, indicator_ext (p n) false e)))
 ]

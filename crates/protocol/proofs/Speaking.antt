@@ -1,4 +1,5 @@
 -- Replies and drops, and statements of which nothing more is asked, keep what holds of the replica that says them.
+--   Plain k  — a kind of statement of which nothing more is asked than that it is not of a later view
 use Rattle.std.proofs.Common.{◌≡◌, ℕ, ◌+◌, ◌%◌, ◌^◌, ◌<◌, ◌≤◌, true, false, sym, refl, ap, ◌∙◌, subst, inl, inr, arith, mod-lt, pow_pos, lt_of_lt_of_le, pow_mono}
 use Rattle.std.proofs.lemmas.Bool.{both_ways, cases_eq, cases_lt}
 use Rattle.record.specs.Statements.{reply_by, drop_by, commit_by}
@@ -17,7 +18,6 @@ use Rattle.protocol.proofs.Saying.{view_of, slot_of, added_cases, added_other, G
 use Rattle.protocol.proofs.Invariant.{Line, Reply, Fact, Past, Good}
 use Rattle.protocol.proofs.Later.{stays, based_later, line_kept, speak_good}
 
--- a kind of statement of which nothing more is asked than that it is not of a later view
 pub record Plain (k : ℕ) : Type 0 where
   pub reply : k ≡ 1 → ⊥
   pub prepare : k ≡ 5 → ⊥
@@ -50,9 +50,9 @@ module _ (u : Setup) (V : Service) (h : Set) (B : Book) (i : ℕ) (r : Replica) 
         | inr t ↦ t
       ])
       (λ v s w a k. added_other h x (reply_by i v s w a) P.reply) (λ v l k. added_other h x (commit_by i v l 1) P.commit) in
-      speak_good u V h B i r r G x T G.tidy (line_kept u V h (added h x) B B (grown_refl B) i r r T refl refl refl refl G.line)
+      speak_good u V h B i r r G x T G.bounds (line_kept u V h (added h x) B B (grown_refl B) i r r T refl refl refl refl G.line)
       (plain_fact u V (added h x) B i r x P b)
-      (λ y e k. absurd (omega (arith, k.bound, P)))
+      (λ y e k. absurd (omega (arith, k.unique, P)))
 
 module _ (u : Setup) (V : Service) (h : Set) (B : Book) (i : ℕ) (r : Replica) (G : Good u V h B i r) (W : Works u i r) where
   -- a REPLY of its view says nothing new of a view that it left
@@ -76,6 +76,7 @@ module _ (u : Setup) (V : Service) (h : Set) (B : Book) (i : ℕ) (r : Replica) 
       → Reply u V (added h x) B i r'.view r'.length r.view s w a → Good u V (added h x) B i r')
   replied s w a r' ev et es em el L N =
       let x = reply_by i r.view s w a in
+      let sealed : r'.sealed ≡ r.sealed = es in
       speak_good u V h B i r r' G x
       (record {
         grows = added_grows h x;
@@ -86,7 +87,7 @@ module _ (u : Setup) (V : Service) (h : Set) (B : Book) (i : ℕ) (r : Replica) 
         replies = own_replies s w a;
         commits = λ v l p. added_other h x (commit_by i v l 1) (λ k. omega arith);
       })
-      (omega (arith, G.tidy, ap (λ (y : ℕ). y) es)) L
+      (omega (arith, G.bounds, sealed)) L
       (record {
         past = λ k. omega arith;
         reply = λ k. N;
@@ -95,7 +96,7 @@ module _ (u : Setup) (V : Service) (h : Set) (B : Book) (i : ℕ) (r : Replica) 
         change = λ k. absurd (omega arith);
         entry = λ k. absurd (omega arith);
       })
-      (λ y e k. absurd (omega (arith, k.bound)))
+      (λ y e k. absurd (omega (arith, k.unique)))
 
   pub deliver_good :
       (a : ℕ) → r.length < 64 → Upto B r.length → h (drop_by i r.view r.length) ≡ false → a ≡ answer_at V B r.word r.length
@@ -114,7 +115,6 @@ module _ (u : Setup) (V : Service) (h : Set) (B : Book) (i : ℕ) (r : Replica) 
       ] in
       replied r.length r.word a (delivered r) refl refl refl refl (omega arith)
       (record {
-        order = omega (arith, L.order);
         known = λ l q. p l (omega arith);
         small = lt_of_lt_of_le L.small wider;
         based = based_later u h (added h x) g B B (grown_refl B) L.based;

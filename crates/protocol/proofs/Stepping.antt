@@ -1,4 +1,7 @@
 -- A call that is granted makes a move: what all calls share.
+--   Sound u V x    — what stays true of a bench in its lives, in the state x
+--   Moved u V x y  — a step from the state x to y that keeps the number of places for replicas
+--   Kept u V x m   — what a call with the meaning m keeps, in the state x
 use Rattle.std.proofs.Common.{◌≡◌, ℕ, ◌<◌, ◌≤◌, Bool, true, false, ◌⊎◌, eqb, Option, List, [], ◌∷◌, ◌++◌, length, get_or, set, is_ok, Some, None, Ok, Err, sym, refl, ap, ◌∙◌, subst, inl, inr, arith}
 use Rattle.std.proofs.lemmas.List.{get_or-set_same, get_or-set_other, length-set}
 use Rattle.std.proofs.lemmas.Bool.{cases_Bool, cases_eq, cond-true, cond-false, cond_both, eq-eqb, ne_eqb, or_left}
@@ -24,18 +27,15 @@ use Rattle.protocol.specs.Steps.{model, Step, OwnOrFull}
 use Rattle.protocol.proofs.Invariant.{Inv}
 use Rattle.protocol.proofs.Layouts.{allowed_layout}
 
--- what stays true of a bench in its lives
 pub record Sound (u : Setup) (V : Service) (x : State) : Type 0 where
   pub inv : Inv u V (model x)
-  pub bound : u.f ≤ 5
+  pub faults : u.f ≤ 5
   pub room : length x.replicas ≡ 16
 
--- a step that keeps the number of places for replicas
 record Moved (u : Setup) (V : Service) (x y : State) : Type 0 where
   step : Step u V x y
   room : length y.replicas ≡ 16
 
--- what a call with the meaning m keeps, in the state x
 pub record Kept (u : Setup) (V : Service) (x : State) (m : Meaning) : Type 0 where
   pub step : Step u V x m.after
   pub room : length m.after.replicas ≡ 16

@@ -1,4 +1,5 @@
 -- Prepares, commits and settlements keep what holds of the replica that makes them.
+--   Reaches s n n'  — a line of length n, in which slot s is settled, has the length n'
 use Rattle.std.proofs.Common.{◌≡◌, ℕ, ◌+◌, ◌<◌, ◌≤◌, true, false, cond, ◌⊎◌, eqb, sym, refl, ap, ◌∙◌, subst, inl, inr, arith, lt_of_lt_of_le, pow_mono}
 use Rattle.std.proofs.lemmas.Bool.{both_ways, cases_eq, cond_both, eqb-true, eqb-false}
 use Rattle.record.specs.Layout.{Layout}
@@ -18,8 +19,8 @@ use Rattle.protocol.specs.Service.{Service, Book, Known}
 use Rattle.protocol.specs.Rules.{Said, Works, Open}
 use Rattle.protocol.proofs.Books.{grown_refl}
 use Rattle.protocol.proofs.Saying.{view_of, added_cases, added_other, Grows, added_grows, quorum_grows, started_grows, as_prepare}
-use Rattle.protocol.proofs.Invariant.{Rivals, Good}
-use Rattle.protocol.proofs.Later.{Turn, aside, line_kept, speak_good, turn_good}
+use Rattle.protocol.proofs.Invariant.{Competing, Good}
+use Rattle.protocol.proofs.Later.{Turn, by_other_kind, line_kept, speak_good, turn_good}
 
 number_no_op : (d : Verdict) → verdict_number d ≡ 1 → d ≡ NoOp
 number_no_op NoOp e = refl
@@ -42,7 +43,6 @@ sets_seal : (w s : ℕ) (d : Verdict) → s < 64 → verdict_number d ≡ 1 → 
 sets_seal w s NoOp h e = sealed_sets w s h
 sets_seal w s Operation h e = absurd (omega (arith, e))
 
--- how far a line of length n reaches once slot s is settled
 record Reaches (s n n' : ℕ) : Type 0 where
   over : n ≤ n'
   past : s < n'
@@ -73,7 +73,7 @@ module _ (u : Setup) (V : Service) (h : Set) (B : Book) (i : ℕ) (r : Replica) 
       let n = verdict_number d in
       let x = prepare_by i r.view s n in
       let g : Grows h (added h x) = added_grows h x in
-      let new : (y : Record) → Said h y → Rivals x y → x ≡ y =
+      let new : (y : Record) → Said h y → Competing x y → x ≡ y =
       λ y e k.
       let v = layout y e in
       let q : y ≡ prepare_by i r.view s y.verdict =
@@ -85,8 +85,8 @@ module _ (u : Setup) (V : Service) (h : Set) (B : Book) (i : ℕ) (r : Replica) 
             let o = number_other d y.verdict v.verdict t in
             absurd (both_ways (h y) (ap h (q ∙ (λ j. prepare_by i r.view s (o j))) ∙ unsaid) e)
       ] in
-      let T = aside h i r r x (omega arith) (refl, omega arith, λ l e. e) (omega arith) (λ t k f. f) in
-      speak_good u V h B i r r G x T G.tidy (line_kept u V h (added h x) B B (grown_refl B) i r r T refl refl refl refl G.line)
+      let T = by_other_kind h i r r x (omega arith) (refl, omega arith, λ l e. e) (omega arith) (λ t k f. f) in
+      speak_good u V h B i r r G x T G.bounds (line_kept u V h (added h x) B B (grown_refl B) i r r T refl refl refl refl G.line)
       (record {
         past = λ k. omega arith;
         reply = λ k. absurd (omega arith);
@@ -121,7 +121,7 @@ module _ (u : Setup) (V : Service) (h : Set) (B : Book) (i : ℕ) (r : Replica) 
         commits = λ v l p e. elim (added_cases h x (commit_by i v l 1) e) [ inl y ↦ absurd (omega (arith, view_of y, W.at_work)) | inr y ↦ y ];
       } in
       speak_good u V h B i r (committed r s d) G x T
-      (record { ahead = G.tidy.ahead; bound = G.tidy.bound; small = sealed_lt r.sealed s d G.tidy.small })
+      (record { ahead = G.bounds.ahead; most = G.bounds.most; small = sealed_lt r.sealed s d G.bounds.small })
       (line_kept u V h (added h x) B B (grown_refl B) i r (committed r s d) T refl refl refl refl G.line)
       (record {
         past = λ k. omega arith;
@@ -136,7 +136,7 @@ module _ (u : Setup) (V : Service) (h : Set) (B : Book) (i : ℕ) (r : Replica) 
         change = λ k. absurd (omega arith);
         entry = λ k. absurd (omega arith);
       })
-      (λ y e k. absurd (omega (arith, k.bound)))
+      (λ y e k. absurd (omega (arith, k.unique)))
 
   -- a commit of the verdict d on slot s is one of the number n on the slot l
   settles : (s l n : ℕ) (d : Verdict) → l ≡ s → verdict_number d ≡ n → QuorumSaid u h (commit_by 0 r.view s (verdict_number d)) → QuorumSaid u h (commit_by 0 r.view l n)
@@ -162,9 +162,8 @@ module _ (u : Setup) (V : Service) (h : Set) (B : Book) (i : ℕ) (r : Replica) 
         replies = λ v s' x a p e. e;
         commits = λ v l p e. e;
       })
-      (record { ahead = G.tidy.ahead; bound = G.tidy.bound; small = sealed_lt r.sealed s d G.tidy.small })
+      (record { ahead = G.bounds.ahead; most = G.bounds.most; small = sealed_lt r.sealed s d G.bounds.small })
       (record {
-        order = omega (arith, L.order, D.over);
         known = λ l p. elim (D.grown l p) [
           | inl x ↦ L.known l x
           | inr x ↦ subst (Known B) (sym x) O.known

@@ -17,7 +17,7 @@ use Rattle.protocol.proofs.Books.{answer_alike}
 use Rattle.protocol.proofs.Counting.{member}
 use Rattle.protocol.proofs.Invariant.{Inv, reply_of}
 use Rattle.protocol.proofs.Certificates.{Certificates}
-use Rattle.protocol.proofs.Agreement.{Marks, Carried, quorum_layout, commit_prepare, prepare_from, answer_marked, answer_carried, skip_carried}
+use Rattle.protocol.proofs.Agreement.{Marks, InBase, quorum_layout, commit_prepare, prepare_from, answer_marked, answer_in_base, no_op_in_base}
 
 mark : Setup → Set → ℕ → ℕ × ℕ → ℕ → Bool
 mark u h v b l = cond (ltb l b.0) (bit b.1 l) (quorum h (replicas u) (quorum_size u) (commit_by 0 v l 1))
@@ -99,7 +99,7 @@ module _ (u : Setup) (V : Service) (m : Model) (I : Inv u V m) where
   -- what was certified before the last view is in its base
   line_bit :
       (x : Record) → x.kind ≤ 6 → QuorumSaid u m.held x → (a : ℕ) (f : ℕ → Bool)
-      → (x.view < last.view → Carried a x.slot f kept.base)
+      → (x.view < last.view → InBase a x.slot f kept.base)
       → (l : ℕ) → a ≤ l → l ≤ x.slot → (x.view ≡ last.view → is_no_op l ≡ f l) → bit line l ≡ f l
   unfolding line
   line_bit x k q a f past l from to now =
@@ -113,14 +113,14 @@ module _ (u : Setup) (V : Service) (m : Model) (I : Inv u V m) where
   no_op_bit : (v s : ℕ) → QuorumSaid u m.held (commit_by 0 v s 1) → bit line s ≡ true
   no_op_bit v s q =
       line_bit (commit_by 0 v s 1) (omega arith) q s (λ _. true)
-      (λ h. skip_carried u V m I v s last.view kept.base q h kept.started) s (omega arith) (omega arith)
+      (λ h. no_op_in_base u V m I v s last.view kept.base q h kept.started) s (omega arith) (omega arith)
       (λ e. kept.no_ops s (subst (λ (x : ℕ). QuorumSaid u m.held (commit_by 0 x s 1)) e q))
 
   module _ (v s w a : ℕ) (q : QuorumSaid u m.held (reply_by 0 v s w a)) where
     answer_bits : (l : ℕ) → l ≤ s → bit line l ≡ bit w l
     answer_bits l k =
         line_bit (reply_by 0 v s w a) (omega arith) q 0 (bit w)
-        (λ h. answer_carried u V m I v s w a last.view kept.base q h kept.started) l (omega arith) k
+        (λ h. answer_in_base u V m I v s w a last.view kept.base q h kept.started) l (omega arith) k
         (λ e.
         answer_marked u V m I last.view s w a is_no_op (subst (λ (x : ℕ). QuorumSaid u m.held (reply_by 0 x s w a)) e q) kept l k)
 

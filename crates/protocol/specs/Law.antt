@@ -1,6 +1,5 @@
--- The one-ledger law: nobody who commands up to f of the 3f + 1 replicas, and picks every call and its turn, can settle a slot two ways.
+-- The one-ledger law: where at most f of the 3f + 1 replicas are foreign, no slot is certified two ways, whoever picks the calls and their order.
 -- A life is a granted open over an empty register and then any list of calls, granted or refused. After k of its calls:
---   Different is          — no number stands twice in the list is
 --   Entered y k r         — a granted call of the life y entered the statement r
 --   Signers y k r         — q different replicas below n are signers under which r was entered (the signer that stands in r does not count)
 --   Answered y k v s w a  — the answer a for slot s in view v, with the word w of the no-ops below the slot, is certified
@@ -11,11 +10,11 @@
 --   OneLedger y           — the law for the life y
 --   OneLedgerAlways       — every life keeps the law, of every bench that opens, with every service and every number of free places
 -- The single service is one service, freshly cleared, that takes the slots from 0 upward and is fed the operations stamped in the life; a no-op of the line and an unstamped slot leave it as it is. It answers for a stamped slot that is no no-op of the line, so a certified answer's slot is one.
-use Rattle.std.specs.Prelude.{◌≡◌, ℕ, ◌%◌, ◌^◌, ◌<◌, ◌≤◌, true, false, ◌≢◌, List, [], ◌∷◌, length, take, Some}
+use Rattle.std.specs.Prelude.{◌≡◌, ℕ, ◌%◌, ◌^◌, ◌<◌, ◌≤◌, true, false, List, length, take, Some}
 use Rattle.std.specs.List.{AllByRecursion}
 use Rattle.record.specs.Statements.{reply_by, commit_by}
 use Rattle.record.specs.declared.Record.{Record}
-use Rattle.quorum.specs.Quorums.{signed_by}
+use Rattle.quorum.specs.Quorums.{Different, signed_by}
 use Rattle.replica.specs.Words.{bit}
 use Rattle.protocol.specs.Setup.{replicas, quorum_size}
 use Rattle.protocol.specs.Service.{book, single}
@@ -23,17 +22,16 @@ use Rattle.protocol.specs.State.{opened}
 use Rattle.protocol.specs.Call.{Call, AskAnswer, AskNoOp, Yes, meaning}
 use Rattle.protocol.specs.Life.{Life, Enters, state_at, outcomes_of, nth}
 
-abbrev pub Different : List ℕ → Type 0
-Different [] = Unit {0}
-Different (i ∷ is) = AllByRecursion (λ (j : ℕ). i ≢ j) is × Different is
-
 abbrev pub Entered : Life → ℕ → Record → Type 0
 Entered y k r = Enters y.bench y.service (opened y.places) (take k y.calls) r
 
 pub record Signers (y : Life) (k : ℕ) (r : Record) : Type 0 where
   pub who : List ℕ
+  -- q numbers
   pub enough : length who ≡ quorum_size y.bench
+  -- no two of them alike
   pub different : Different who
+  -- each of a replica below n, under which a granted call entered r
   pub each : AllByRecursion (λ (i : ℕ). (i < replicas y.bench) × Entered y k (signed_by r i)) who
 
 abbrev pub Answered : Life → (k v s w a : ℕ) → Type 0
@@ -46,13 +44,17 @@ abbrev pub SaysYes : Life → ℕ → Call → Type 0
 SaysYes y k c = (meaning y.bench y.service (state_at y k) c).outcome ≡ Yes
 
 pub record Agrees (y : Life) (line s w a : ℕ) : Type 0 where
+  -- the line has no no-op at the slot
   pub operation : bit line s ≡ false
+  -- the word is the line's no-ops below the slot
   pub word : w ≡ line % 2 ^ s
+  -- the result is what the single service answers for the slot, fed what the life stamped
   pub result : single y.service (book (state_at y (length y.calls)).stamped) line s ≡ Some a
 
 pub record OneLedger (y : Life) : Type 0 where
   -- one line of 64 verdicts for the whole life
   pub line : ℕ
+  -- it has 64 bits
   pub short : line < 2 ^ 64
   -- it agrees with every answer that is certified at any step
   pub answers : (k v s w a : ℕ) → k ≤ length y.calls → Answered y k v s w a → Agrees y line s w a

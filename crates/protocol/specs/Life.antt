@@ -2,7 +2,7 @@
 --   run u V x cs       — the state after the calls cs, from the state x
 --   outcomes u V x cs  — what came of each of the calls cs, from the state x
 --   Enters u V x cs r  — one of the calls cs, made in turn from the state x, was granted and entered the statement r
---   Life               — a life: the bench, its service, the free places of its register at the opening, and the calls
+--   Life               — a life: the bench, whose open was granted, its service, the free places of its register at the opening, and the calls
 --   state_at y k       — the state of the life y after its open and k calls
 --   outcomes_of y      — what came of the calls of the life y, one after the other
 --   nth k xs           — the element of the list xs at the place k, from 0, if there is one

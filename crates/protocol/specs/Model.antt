@@ -1,7 +1,6 @@
 -- A bench as the argument for safety sees it, without its storage, and how it moves.
 --   Model        — the operations stamped, all that was said, and each replica by its number
 --   stamps m     — the book of the operations stamped
---   start        — a model as a bench opens: nothing is stamped, nothing was said, every replica is still
 --   placed f i r — the replicas f, with r for replica i
 --   Move         — what a call does to a model: nothing, it stamps an operation, a foreign replica's statement is entered, replica i becomes r, or replica i becomes r and says x
 --   apply m a    — the model m after the move a
@@ -9,8 +8,7 @@
 use Rattle.std.specs.Prelude.{ℕ, cond, List, [], ◌∷◌, ◌++◌, ◌==◌}
 use Rattle.record.specs.Layout.{Layout}
 use Rattle.record.specs.declared.Record.{Record}
-use Rattle.register.specs.Sets.{Set, nothing, added}
-use Rattle.replica.specs.Replicas.{still}
+use Rattle.register.specs.Sets.{Set, added}
 use Rattle.replica.specs.declared.Replica.{Replica}
 use Rattle.protocol.specs.Service.{Book, book}
 
@@ -21,9 +19,6 @@ pub record Model : Type 0 where
 
 abbrev pub stamps : Model → Book
 stamps m = book m.stamped
-
-abbrev pub start : Model
-start = record { stamped = []; held = nothing; replica = λ _. still }
 
 abbrev pub placed : (ℕ → Replica) → ℕ → Replica → ℕ → Replica
 placed f i r j = cond (i == j) r (f j)

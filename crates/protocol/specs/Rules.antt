@@ -8,8 +8,7 @@
 --   Started u h v b    — view v starts from the base b, a line's length and word: 0 and 0 for view 0, else a quorum said ENTRY for it
 --   Merging u m v ps b — ps are good picks for the view v over the base b, by what the model m holds
 --   Allowed u V m a    — the rules allow the move a in the model m, for a bench u with the service V
-use Rattle.std.specs.Prelude.{◌≡◌, ℕ, ◌%◌, ◌^◌, ◌<◌, ◌≤◌, true, false, List}
-use Rattle.std.proofs.Math.ListN as list
+use Rattle.std.specs.Prelude.{◌≡◌, ℕ, ◌%◌, ◌^◌, ◌<◌, ◌≤◌, true, false, List, length}
 use Rattle.record.specs.Statements.{reply_by, find_by, drop_by, decision_by, prepare_by, commit_by, view_change_by, view_start_by, entry_by}
 use Rattle.record.specs.declared.Record.{Record}
 use Rattle.register.specs.Sets.{Set}
@@ -52,14 +51,14 @@ Started u h v b = Certified h (replicas u) (quorum_size u) v b
 
 -- the picks ps with the base b are good for a view v
 abbrev pub Merging : Setup → Model → ℕ → List Record → ℕ × ℕ → Type 0
-Merging u m v ps b = Checked m.held (replicas u) (quorum_size u) (list.length m.stamped) v ps b
+Merging u m v ps b = Checked m.held (replicas u) (quorum_size u) (length m.stamped) v ps b
 
 pub data Allowed (u : Setup) (V : Service) (m : Model) : Move → Type 0 where
   -- a call that is refused, or only asks, moves nothing
   rest : Allowed u V m rests
   -- the operation goes to the next of the 64 slots
-  stamp : (op : ℕ) → list.length m.stamped < 64 → Allowed u V m (stamping op)
-  -- at work, the slot at the end of its line is stamped and i has not dropped it: i answers for it and appends it
+  stamp : (op : ℕ) → length m.stamped < 64 → Allowed u V m (stamping op)
+  -- at work, every slot through the end of its line is stamped and i has not dropped the one there: i answers for it and appends it
   deliver :
       (i : ℕ) → Works u i (m.replica i) → Upto (stamps m) (m.replica i).length
       → m.held (drop_by i (m.replica i).view (m.replica i).length) ≡ false
@@ -67,11 +66,11 @@ pub data Allowed (u : Setup) (V : Service) (m : Model) : Move → Type 0 where
       (says i (delivered (m.replica i))
       (reply_by i (m.replica i).view (m.replica i).length (m.replica i).word
       (answer_at V (stamps m) (m.replica i).word (m.replica i).length)))
-  -- the leader, at work, looks for the operation at the end of its line
+  -- the leader, at work, looks for the operation of the slot at the end of its line, which is stamped
   find :
       (i : ℕ) → Works u i (m.replica i) → i ≡ leader u (m.replica i).view → Known (stamps m) (m.replica i).length
       → Allowed u V m (says i (m.replica i) (find_by i (m.replica i).view (m.replica i).length))
-  -- at work, where its leader looks for the operation at the end of i's line, i says that it has not got it
+  -- at work, where its leader looks for the operation of the slot at the end of i's line, which is stamped, i says that it has not got it
   drop :
       (i : ℕ) → Works u i (m.replica i)
       → Said m.held (find_by (leader u (m.replica i).view) (m.replica i).view (m.replica i).length)
@@ -124,7 +123,7 @@ pub data Allowed (u : Setup) (V : Service) (m : Model) : Move → Type 0 where
       → Allowed u V m
       (says i (m.replica i) (view_start_by i (m.replica i).target (merge b ps).0 (merge b ps).1))
   -- leaving and unmarked, i is ready for its target with the merge of good picks, which the leader started it with
-  begin :
+  start :
       (i : ℕ) (ps : List Record) (b : ℕ × ℕ) → Leaves u i (m.replica i) → (m.replica i).mark ≡ false
       → Said m.held
       (view_start_by (leader u (m.replica i).target) (m.replica i).target (merge b ps).0 (merge b ps).1)

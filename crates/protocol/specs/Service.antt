@@ -1,6 +1,6 @@
 -- Which operations the slots are stamped with, and what a service answers along a word.
 --   Book               — for each slot the operation that is stamped there, if one is
---   book ops           — the book where the operations ops are stamped, that of slot 0 first; shut: use the laws in proofs/Books.antt
+--   book ops           — the book where the operations ops are stamped, that of slot 0 first
 --   is_stamped ops l   — whether slot l is stamped
 --   Known b l          — slot l has an operation in the book b
 --   Service            — a service, by what it answers to an operation after those that it was fed since it was cleared
@@ -9,9 +9,10 @@
 --   fed b w s          — the operations that a service is fed from slot 0 up to slot s, itself not among them: a no-op of the word w and an unstamped slot leave it as it is
 --   or_zero o          — the operation o, or 0 where there is none
 --   operation_at b s   — the operation stamped at slot s, or 0 where there is none
---   answer_at V b w s  — what a freshly cleared service answers to the operation of slot s, after it was fed those below
+--   answer_at V b w s  — what a freshly cleared service answers to the operation of slot s, after it was fed those of fed b w s
 --   if_some o a        — a where there is an operation o, else nothing
 --   single V b w s     — the single service's answer for slot s along the word w, if it has one: at a no-op and at an unstamped slot it has none
+-- book, fed, answer_at and single are shut: crates above use laws about them.
 use Rattle.std.specs.Prelude.{◌≡◌, ℕ, zero, suc, ◌^◌, ◌<◌, Bool, cond, List, [], ◌∷◌, ◌++◌, length, Some, None, Option, nat_lt, slice_index}
 use Rattle.replica.specs.Words.{bit}
 

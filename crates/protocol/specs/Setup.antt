@@ -4,7 +4,6 @@
 --   quorum_size u  — q, how many replicas are a quorum, 2f + 1
 --   foreign u i    — whether replica i is foreign: it may say anything. The others are honest: they keep the rules
 --   leader u v     — the leader of view v
---   Few u          — at most f of the replicas are foreign
 --   Many u p       — at least a quorum of the replicas pass the test p
 --   QuorumSaid u h x  — a quorum of the replicas said the statement x, each under its own number (the signer in x does not count), where h is the set of all that was said
 use Rattle.std.specs.Prelude.{ℕ, ◌+◌, ◌*◌, ◌%◌, ◌≤◌, Bool}
@@ -28,9 +27,6 @@ foreign u i = bit u.mask i
 
 abbrev pub leader : Setup → ℕ → ℕ
 leader u v = v % replicas u
-
-abbrev pub Few : Setup → Type 0
-Few u = count (replicas u) (foreign u) ≤ u.f
 
 abbrev pub Many : Setup → (ℕ → Bool) → Type 0
 Many u p = quorum_size u ≤ count (replicas u) p
