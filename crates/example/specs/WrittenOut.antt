@@ -52,7 +52,7 @@ table =
     (Stamp 5, Granted)
     ∷ (Stamp 6, Granted)
     ∷ (Stamp 7, Granted)
-    -- slot 0 is answered; a lie about it is not
+    -- slot 0 is answered; a foreign replica's other answer is not certified
     ∷ (Deliver 0 1, Refused (refused SlotOrView 0))
     ∷ (Deliver 3 0, Refused (refused Honesty 0))
     ∷ (Deliver 4 0, Refused (refused ReplicaNumber 0))

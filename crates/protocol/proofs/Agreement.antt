@@ -1,8 +1,8 @@
 -- The views agree: what a quorum certified in one view, every later view starts from.
---   Seen u h v s w b         — what an answer certified in view v, for slot s along the word w, says of the base b of its view
---   Marks u h v p            — the test p keeps view v: it has the bits of the view's base, it is true at each no-op that was certified in v, and above the base at none but those that were prepared
---   InBase a s f b           — the base b goes past slot s, and its bits from a through s are those of f
---   Witnessed u m x v t n w  — an honest replica said x, and a VIEW-CHANGE for view v that the line n, w of the merge from view t covers
+--   Seen u h v s w b      — what an answer certified in view v, for slot s along the word w, says of the base b of its view
+--   KeepsView u h v p     — the test p keeps view v: it has the bits of the view's base, it is true at each no-op that was certified in v, and above the base at none but those that were prepared
+--   InBase a s f b        — the base b goes past slot s, and its bits from a through s are those of f
+--   Shared u m x v t n w  — an honest replica said x, and a VIEW-CHANGE for view v that the line n, w of the merge from view t covers
 use Rattle.std.proofs.Common.{◌≡◌, ℕ, zero, suc, ◌<◌, ◌≤◌, Bool, true, sym, refl, ap, ◌∙◌, subst, ap₂, inl, inr, arith}
 use Rattle.std.proofs.lemmas.Bool.{both_ways, cases_lt, cases_Bool, true_from_ne_false, false_from_ne_true}
 use Rattle.record.specs.Layout.{Layout}
@@ -22,7 +22,7 @@ pub record Seen (u : Setup) (h : Set) (v s w : ℕ) (b : ℕ × ℕ) : Type 0 wh
   pub below : (l : ℕ) → l ≤ s → l < b.0 → bit w l ≡ bit b.1 l
   pub above : (l : ℕ) → l ≤ s → b.0 ≤ l → bit w l ≡ true → QuorumSaid u h (commit_by 0 v l 1)
 
-pub record Marks (u : Setup) (h : Set) (v : ℕ) (p : ℕ → Bool) : Type 0 where
+pub record KeepsView (u : Setup) (h : Set) (v : ℕ) (p : ℕ → Bool) : Type 0 where
   pub base : ℕ × ℕ
   pub started : Started u h v base
   pub below : (l : ℕ) → l < base.0 → p l ≡ bit base.1 l
@@ -33,14 +33,14 @@ pub record InBase (a s : ℕ) (f : ℕ → Bool) (b : ℕ × ℕ) : Type 0 where
   pub within : s < b.0
   pub bits : (l : ℕ) → a ≤ l → l ≤ s → bit b.1 l ≡ f l
 
-record Witnessed (u : Setup) (m : Model) (x : Record) (v t n w : ℕ) : Type 0 where
+record Shared (u : Setup) (m : Model) (x : Record) (v t n w : ℕ) : Type 0 where
   who : ℕ
   says : Said m.held (signed_by x who)
   covering : Covers m.held v t n w who
   change : Change m.held who (m.replica who).target v covering.last covering.reach covering.word
 
 module _ (u : Setup) (V : Service) (m : Model) (I : Inv u V m) where
-  -- rivals that a quorum said each are one, but for their signers
+  -- competing statements that a quorum said each are one, but for their signers
   one_content : (x y : Record) → Competing x y → QuorumSaid u m.held x → QuorumSaid u m.held y → signed_by x 0 ≡ signed_by y 0
   one_content x y r p q =
       let b = intersect u I.few (said m.held x) (said m.held y) p q in
@@ -112,10 +112,10 @@ module _ (u : Setup) (V : Service) (m : Model) (I : Inv u V m) where
       (record { below = g.below; above = g.above })
 
   -- a test that keeps the view of an answer has the answer's bits
-  pub answer_marked :
-      (v s w a : ℕ) (p : ℕ → Bool) → QuorumSaid u m.held (reply_by 0 v s w a) → Marks u m.held v p → (l : ℕ) → l ≤ s
+  pub answer_kept :
+      (v s w a : ℕ) (p : ℕ → Bool) → QuorumSaid u m.held (reply_by 0 v s w a) → KeepsView u m.held v p → (l : ℕ) → l ≤ s
       → p l ≡ bit w l
-  answer_marked v s w a p q M l h =
+  answer_kept v s w a p q M l h =
       let S = answer_seen v s w a M.base q M.started in
       elim (cases_lt l M.base.0) [
         | inl k ↦ M.below l k ∙ sym (S.below l h k)
@@ -126,23 +126,23 @@ module _ (u : Setup) (V : Service) (m : Model) (I : Inv u V m) where
         ]
       ]
 
-  witnessed : (x : Record) (v n w : ℕ) → QuorumSaid u m.held x → (M : Merged u m.held (stamps m) v n w) → Witnessed u m x v M.top n w
-  witnessed x v n w q M =
+  shared : (x : Record) (v n w : ℕ) → QuorumSaid u m.held x → (M : Merged u m.held (stamps m) v n w) → Shared u m x v M.top n w
+  shared x v n w q M =
       let r = intersect u I.few M.signs (said m.held x) M.many q in
       let p = M.covers r.who r.below r.first in
       record { who = r.who; says = r.second; covering = p; change = change_of u V m I r.who r.honest v p.last p.reach p.word p.said }
 
   -- what each merge from view v or from before has, the base of every view after v has
   through_views :
-      (v a s : ℕ) (f : ℕ → Bool) (fuel t : ℕ) (b : ℕ × ℕ) → t < fuel → v < t → Started u m.held t b
+      (v a s : ℕ) (f : ℕ → Bool) (bound t : ℕ) (b : ℕ × ℕ) → t < bound → v < t → Started u m.held t b
       → ((t : ℕ) (b : ℕ × ℕ) → v < t → Started u m.held t b → (M : Merged u m.held (stamps m) t b.0 b.1) → M.top ≤ v → InBase a s f b)
       → InBase a s f b
   through_views v a s f zero t b k h e step = absurd (omega arith)
-  through_views v a s f (suc fuel) t b k h e step =
+  through_views v a s f (suc bound) t b k h e step =
       let M = started_merged t b (omega arith) e in
       elim (cases_lt v M.top) [
         | inl j ↦
-            let c = through_views v a s f fuel M.top (M.base, M.base_word) (omega (arith, M.older)) j M.started step in
+            let c = through_views v a s f bound M.top (M.base, M.base_word) (omega (arith, M.older)) j M.started step in
             record {
               within = omega (arith, c.within, M.order);
               bits = λ l p q. M.below l (omega (arith, c.within)) ∙ c.bits l p q;
@@ -157,7 +157,7 @@ module _ (u : Setup) (V : Service) (m : Model) (I : Inv u V m) where
   no_op_in_base v s t b q h e =
       through_views v s s (λ _. true) (suc t) t b (omega arith) h e
       (λ t b h e M j.
-      let k = witnessed (commit_by 0 v s 1) t b.0 b.1 q M in
+      let k = shared (commit_by 0 v s 1) t b.0 b.1 q M in
       let c = k.change.commits v s h k.says in
       let last : v ≡ k.covering.last = omega (arith, c.0, k.covering.under) in
       let top : k.covering.last ≡ M.top = omega (arith, c.0, k.covering.under) in
@@ -167,9 +167,9 @@ module _ (u : Setup) (V : Service) (m : Model) (I : Inv u V m) where
       })
 
   -- a merge keeps the view that it starts from
-  merged_marks :
-      (t : ℕ) (b : ℕ × ℕ) → Started u m.held t b → (M : Merged u m.held (stamps m) t b.0 b.1) → Marks u m.held M.top (bit b.1)
-  merged_marks t b e M =
+  merge_keeps_view :
+      (t : ℕ) (b : ℕ × ℕ) → Started u m.held t b → (M : Merged u m.held (stamps m) t b.0 b.1) → KeepsView u m.held M.top (bit b.1)
+  merge_keeps_view t b e M =
       record {
         base = (M.base, M.base_word);
         started = M.started;
@@ -178,19 +178,19 @@ module _ (u : Setup) (V : Service) (m : Model) (I : Inv u V m) where
         no_ops = λ l q. (no_op_in_base M.top l t b q M.older e).bits l (omega arith) (omega arith);
       }
 
-  -- and so are the slot of a certified answer and the word below it
+  -- a certified answer's slot, and the word below it, are in the base of every later view
   pub answer_in_base :
       (v s w a t : ℕ) (b : ℕ × ℕ) → QuorumSaid u m.held (reply_by 0 v s w a) → v < t → Started u m.held t b
       → InBase 0 s (bit w) b
   answer_in_base v s w a t b q h e =
       through_views v 0 s (bit w) (suc t) t b (omega arith) h e
       (λ t b h e M j.
-      let k = witnessed (reply_by 0 v s w a) t b.0 b.1 q M in
+      let k = shared (reply_by 0 v s w a) t b.0 b.1 q M in
       let c = k.change.replies v s w a h k.says in
       let last : v ≡ k.covering.last = omega (arith, c.0, k.covering.under) in
       let top : k.covering.last ≡ M.top = omega (arith, c.0, k.covering.under) in
       let here = subst (λ (x : ℕ). QuorumSaid u m.held (reply_by 0 x s w a)) (last ∙ top) q in
       record {
         within = omega (arith, c.1 last, k.covering.within top);
-        bits = λ l _ p. answer_marked M.top s w a (bit b.1) here (merged_marks t b e M) l p;
+        bits = λ l _ p. answer_kept M.top s w a (bit b.1) here (merge_keeps_view t b e M) l p;
       })

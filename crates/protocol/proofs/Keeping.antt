@@ -1,4 +1,4 @@
--- Every move that the rules allow keeps the invariant, and a bench opens in it.
+-- Every move that the rules allow, with a statement that keeps the layout if with any, keeps the invariant, and a bench opens in it.
 use Rattle.std.proofs.Common.{◌≡◌, ℕ, ◌<◌, Bool, true, false, cond, eqb, [], ◌∷◌, length, length-append, sym, refl, ap, ◌∙◌, subst, inl, inr, arith}
 use Rattle.std.proofs.lemmas.Bool.{both_ways, eqb-true, eqb-false}
 use Rattle.record.specs.Layout.{Layout}

@@ -1,5 +1,5 @@
 -- What holds of a replica and of its statements outlasts more statements and more operations.
---   Turn h h' i r r'  — what replica i, as it becomes r' where it was r, and h' is all that was said where it was h, leaves of its other statements
+--   Turn h h' i r r'  — replica i goes from r to r', and all that was said from h to h', so that what held of its other statements still holds
 --   OtherKind k       — the kind k is not REPLY, DROP or COMMIT
 --   Silent h h' j     — replica j said nothing in h' that it had not said in h
 use Rattle.std.proofs.Common.{◌≡◌, ℕ, ◌<◌, ◌≤◌, Bool, true, ◌⊎◌, sym, refl, ◌∙◌, subst, inl, inr, arith}

@@ -1,4 +1,4 @@
--- Every call of every life keeps the rules and is refused as they say, and every life keeps one ledger.
+-- Every call of every life keeps the rules and is refused on its own grounds or since the register is full, and every life keeps one ledger.
 use Rattle.std.proofs.Common.{◌≡◌, ℕ, zero, suc, length, get_or, replicate, take, sym, refl, subst}
 use Rattle.replica.specs.Replicas.{still}
 use Rattle.protocol.specs.Setup.{Setup}
@@ -14,7 +14,7 @@ use Rattle.protocol.proofs.Stepping.{Sound}
 use Rattle.protocol.proofs.Calls.{call_step}
 use Rattle.protocol.proofs.Keeping.{opening, opening_inv, allowed_inv}
 use Rattle.protocol.proofs.Entries.{kept_after}
-use Rattle.protocol.proofs.Witness.{witness}
+use Rattle.protocol.proofs.OneLine.{one_line}
 use Rattle.protocol.proofs.Lives.{ledger}
 
 sound_next : (u : Setup) (V : Service) (x : State) (c : Call) → Sound u V x → Sound u V (meaning u V x c).after
@@ -53,4 +53,4 @@ refusals_own_or_full y k c short = (call_step y.bench y.service (state_at y k) (
 pub one_ledger_always : OneLedgerAlways
 one_ledger_always y =
     let good = λ (k : ℕ). (state_sound y k).inv in
-    ledger y good (witness y.bench y.service (model (state_at y (length y.calls))) (good (length y.calls)))
+    ledger y good (one_line y.bench y.service (model (state_at y (length y.calls))) (good (length y.calls)))

@@ -9,7 +9,7 @@ pub mod Voting
 pub mod Moving
 pub mod Signing
 pub mod Agreement
-pub mod Witness
+pub mod OneLine
 pub mod Merging
 pub mod Keeping
 pub mod Layouts

@@ -119,7 +119,7 @@ module _ (u : Setup) (V : Service) (m : Model) (I : Inv u V m) where
     pub merged : 0 < v → Merged u m.held (stamps m) v (merge b ps).0 (merge b ps).1
     unfolding n w
     merged pos =
-        let pledges : AllByRecursion (λ j. Covers m.held v (top ps) n w j) (signers ps) =
+        let covering_all : AllByRecursion (λ j. Covers m.held v (top ps) n w j) (signers ps) =
         All-map (λ j. Covers m.held v (top ps) n w j) (λ (p : Record). p.signer) ps (All-weaker _ _ covering ps each) in
         let low : AllByRecursion (λ j. j < replicas u) (signers ps) =
         All-map (λ j. j < replicas u) (λ (p : Record). p.signer) ps (All-weaker _ _ (λ p P. P.picked.signer) ps each) in
@@ -139,5 +139,5 @@ module _ (u : Setup) (V : Service) (m : Model) (I : Inv u V m) where
           ];
           signs = among (signers ps);
           many = omega (arith, C.number, counted, length-map ps (λ (p : Record). p.signer));
-          covers = λ j q e. among_passes _ (signers ps) pledges j e;
+          covers = λ j q e. among_passes _ (signers ps) covering_all j e;
         }

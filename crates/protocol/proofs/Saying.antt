@@ -87,7 +87,7 @@ competing_sym x y r =
       slots = λ e. sym (r.slots (r.kinds ∙ e));
     }
 
--- one content only, also after one more statement that has no rival
+-- one content only, also after one more statement with which none competes
 pub once_more : (h : Set) (i : ℕ) (x : Record) → ((y : Record) → Said h y → Competing x y → x ≡ y) → Once h i → Once (added h x) i
 once_more h i x new old y z s e f r = elim (added_cases h x y e) [
   | inl p ↦ elim (added_cases h x z f) [

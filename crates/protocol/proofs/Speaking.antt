@@ -1,5 +1,5 @@
 -- Replies and drops, and statements of which nothing more is asked, keep what holds of the replica that says them.
---   Plain k  — a kind of statement of which nothing more is asked than that it is not of a later view
+--   Plain k  — a kind of statement of which nothing is asked but, of FIND, DROP and DECISION, that it is not of a later view
 use Rattle.std.proofs.Common.{◌≡◌, ℕ, ◌+◌, ◌%◌, ◌^◌, ◌<◌, ◌≤◌, true, false, sym, refl, ap, ◌∙◌, subst, inl, inr, arith, mod-lt, pow_pos, lt_of_lt_of_le, pow_mono}
 use Rattle.std.proofs.lemmas.Bool.{both_ways, cases_eq, cases_lt}
 use Rattle.record.specs.Statements.{reply_by, drop_by, commit_by}

@@ -12,7 +12,7 @@
 --   answer_at V b w s  — what a freshly cleared service answers to the operation of slot s, after it was fed those of fed b w s
 --   if_some o a        — a where there is an operation o, else nothing
 --   single V b w s     — the single service's answer for slot s along the word w, if it has one: at a no-op and at an unstamped slot it has none
--- book, fed, answer_at and single are shut: crates above use laws about them.
+-- book, fed, answer_at and single are shut: a proof that looks inside them says so.
 use Rattle.std.specs.Prelude.{◌≡◌, ℕ, zero, suc, ◌^◌, ◌<◌, Bool, cond, List, [], ◌∷◌, ◌++◌, length, Some, None, Option, nat_lt, slice_index}
 use Rattle.replica.specs.Words.{bit}
 

@@ -1,10 +1,10 @@
 -- Who the replicas of a bench are.
---   Setup          — how many foreign replicas a bench bears, and the mask that names the foreign ones
---   replicas u     — n, the number of replicas, 3f + 1; they are numbered from 0
---   quorum_size u  — q, how many replicas are a quorum, 2f + 1
---   foreign u i    — whether replica i is foreign: it may say anything. The others are honest: they keep the rules
---   leader u v     — the leader of view v
---   Many u p       — at least a quorum of the replicas pass the test p
+--   Setup             — how many foreign replicas a bench bears, and the mask that names the foreign ones
+--   replicas u        — n, the number of replicas, 3f + 1; they are numbered from 0
+--   quorum_size u     — q, how many replicas are a quorum, 2f + 1
+--   foreign u i       — whether replica i is foreign: it may say anything. The others are honest: they keep the rules
+--   leader u v        — the leader of view v
+--   Many u p          — at least a quorum of the replicas pass the test p
 --   QuorumSaid u h x  — a quorum of the replicas said the statement x, each under its own number (the signer in x does not count), where h is the set of all that was said
 use Rattle.std.specs.Prelude.{ℕ, ◌+◌, ◌*◌, ◌%◌, ◌≤◌, Bool}
 use Rattle.record.specs.declared.Record.{Record}

@@ -7,7 +7,7 @@
 ghost use Rattle.protocol.specs.Law.{OneLedgerAlways};
 ghost use Rattle.protocol.specs.Steps.{CallsKeepRules, RefusalsAreOwnOrFull};
 
-/// The law, and what it stands on.
+/// The law; that every call keeps the rules, on which it stands; and how calls are refused.
 #[tactic(auto, using(crate::proofs::Ledger::one_ledger_always, crate::proofs::Ledger::calls_keep_rules, crate::proofs::Ledger::refusals_own_or_full))]
 pub fn one_ledger()
     ensures every_life_keeps_one_ledger { OneLedgerAlways }

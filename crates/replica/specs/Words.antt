@@ -3,7 +3,7 @@
 --   with_bit w l     — w with bit l set; there are 64 bits, so for another l w as it is
 --   without_bit w l  — w with bit l cleared
 --   one_past w       — one past the highest bit of the 64-bit word w that is set, from its leading zeros; 0 where none is
--- All are shut: crates above use the laws in proofs/Words.antt.
+-- All are shut: the laws are in proofs/Words.antt.
 use Rattle.std.specs.Prelude.{ℕ, ◌-◌, ◌/◌, ◌%◌, ◌^◌, Bool, cond, ◌==◌, bit_and, bit_or, nat_lt}
 use Rattle.std.specs.Int.Count.{count_leading_zeros}
 

@@ -16,7 +16,7 @@ const SLOTS: u8 = 64;
 pub enum Verdict {
     /// The slot has the operation that is stamped there.
     Operation = 0,
-    /// The slot has no operation.
+    /// The slot's operation is passed over.
     NoOp = 1,
 }
 

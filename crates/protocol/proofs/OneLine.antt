@@ -1,6 +1,6 @@
 -- The one line with which all that a model certifies agrees.
---   mark u h v b l  — whether slot l is a no-op: below the length of the base b as b has it, from there on if a quorum committed it in view v
---   Latest u m k    — a view that started, not below the view of any honest replica below k
+--   no_op_at u h v b l  — whether slot l is a no-op: below the length of the base b as b has it, from there on if a quorum committed it in view v
+--   Latest u m k        — a view that started, not below the view of any honest replica below k
 use Rattle.std.proofs.Common.{◌≡◌, ℕ, zero, suc, ◌%◌, ◌^◌, ◌<◌, ◌≤◌, Bool, true, false, cond, Some, sym, refl, ap, ◌∙◌, subst, inl, inr, arith, mod-lt, pow_pos, ltb}
 use Rattle.std.proofs.lemmas.Bool.{both_ways, cases_lt, cases_Bool, cond-true, cond-false, lt-ltb, le-ltb, leb-true, le-leb}
 use Rattle.record.specs.Statements.{reply_by, commit_by}
@@ -17,10 +17,10 @@ use Rattle.protocol.proofs.Books.{answer_alike}
 use Rattle.protocol.proofs.Counting.{member}
 use Rattle.protocol.proofs.Invariant.{Inv, reply_of}
 use Rattle.protocol.proofs.Certificates.{Certificates}
-use Rattle.protocol.proofs.Agreement.{Marks, InBase, quorum_layout, commit_prepare, prepare_from, answer_marked, answer_in_base, no_op_in_base}
+use Rattle.protocol.proofs.Agreement.{KeepsView, InBase, quorum_layout, commit_prepare, prepare_from, answer_kept, answer_in_base, no_op_in_base}
 
-mark : Setup → Set → ℕ → ℕ × ℕ → ℕ → Bool
-mark u h v b l = cond (ltb l b.0) (bit b.1 l) (quorum h (replicas u) (quorum_size u) (commit_by 0 v l 1))
+no_op_at : Setup → Set → ℕ → ℕ × ℕ → ℕ → Bool
+no_op_at u h v b l = cond (ltb l b.0) (bit b.1 l) (quorum h (replicas u) (quorum_size u) (commit_by 0 v l 1))
 
 record Latest (u : Setup) (m : Model) (k : ℕ) : Type 0 where
   view : ℕ
@@ -29,20 +29,20 @@ record Latest (u : Setup) (m : Model) (k : ℕ) : Type 0 where
   most : (i : ℕ) → i < k → foreign u i ≡ false → (m.replica i).view ≤ view
 
 module _ (u : Setup) (V : Service) (m : Model) (I : Inv u V m) where
-  mark_above :
-      (v : ℕ) (b : ℕ × ℕ) (l : ℕ) → b.0 ≤ l → mark u m.held v b l ≡ quorum m.held (replicas u) (quorum_size u) (commit_by 0 v l 1)
-  unfolding mark
-  mark_above v b l h = cond-false (ltb l b.0) _ _ (le-ltb l b.0 h)
+  no_op_above :
+      (v : ℕ) (b : ℕ × ℕ) (l : ℕ) → b.0 ≤ l → no_op_at u m.held v b l ≡ quorum m.held (replicas u) (quorum_size u) (commit_by 0 v l 1)
+  unfolding no_op_at
+  no_op_above v b l h = cond-false (ltb l b.0) _ _ (le-ltb l b.0 h)
 
-  marks : (v : ℕ) (b : ℕ × ℕ) → Started u m.held v b → Marks u m.held v (mark u m.held v b)
-  unfolding mark
-  marks v b e =
+  keeps_view : (v : ℕ) (b : ℕ × ℕ) → Started u m.held v b → KeepsView u m.held v (no_op_at u m.held v b)
+  unfolding no_op_at
+  keeps_view v b e =
       record {
         base = b;
         started = e;
         below = λ l h. cond-true (ltb l b.0) _ _ (lt-ltb l b.0 h);
-        above = λ l h t. commit_prepare u V m I v l 1 (leb-true _ _ (sym (mark_above v b l h) ∙ t));
-        no_ops = λ l q. mark_above v b l (prepare_from u V m I v l 1 b (commit_prepare u V m I v l 1 q) e) ∙ le-leb _ _ q;
+        above = λ l h t. commit_prepare u V m I v l 1 (leb-true _ _ (sym (no_op_above v b l h) ∙ t));
+        no_ops = λ l q. no_op_above v b l (prepare_from u V m I v l 1 b (commit_prepare u V m I v l 1 q) e) ∙ le-leb _ _ q;
       }
 
   -- k replicas and one more
@@ -87,11 +87,11 @@ module _ (u : Setup) (V : Service) (m : Model) (I : Inv u V m) where
       omega (arith, past.old, last.most r.who r.below r.honest)
 
   is_no_op : ℕ → Bool
-  is_no_op = mark u m.held last.view last.base
+  is_no_op = no_op_at u m.held last.view last.base
 
-  kept : Marks u m.held last.view is_no_op
+  kept : KeepsView u m.held last.view is_no_op
   unfolding is_no_op
-  kept = marks last.view last.base last.started
+  kept = keeps_view last.view last.base last.started
 
   line : ℕ
   line = word_of 64 is_no_op
@@ -122,7 +122,7 @@ module _ (u : Setup) (V : Service) (m : Model) (I : Inv u V m) where
         line_bit (reply_by 0 v s w a) (omega arith) q 0 (bit w)
         (λ h. answer_in_base u V m I v s w a last.view kept.base q h kept.started) l (omega arith) k
         (λ e.
-        answer_marked u V m I last.view s w a is_no_op (subst (λ (x : ℕ). QuorumSaid u m.held (reply_by 0 x s w a)) e q) kept l k)
+        answer_kept u V m I last.view s w a is_no_op (subst (λ (x : ℕ). QuorumSaid u m.held (reply_by 0 x s w a)) e q) kept l k)
 
     small : w < 2 ^ s
     small = (quorum_layout u V m I (reply_by 0 v s w a) q).1.word
@@ -145,6 +145,6 @@ module _ (u : Setup) (V : Service) (m : Model) (I : Inv u V m) where
         ∙ ap (λ o. if_some o (answer_at V B line s)) (g.stamped s (omega arith)).1
         ∙ ap Some (sym (g.right ∙ alike))
 
-  pub witness : (line : ℕ) × (line < 2 ^ 64) × Certificates u V m line
+  pub one_line : (line : ℕ) × (line < 2 ^ 64) × Certificates u V m line
   unfolding line
-  witness = (line, word_of_lt 64 is_no_op, record { operation = answer_slot; word = answer_word; result = answer_result; no_op = no_op_bit })
+  one_line = (line, word_of_lt 64 is_no_op, record { operation = answer_slot; word = answer_word; result = answer_result; no_op = no_op_bit })
