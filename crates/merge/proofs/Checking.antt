@@ -1,25 +1,18 @@
 -- What a grant tells of the picks.
-use Rattle.std.proofs.Common.{◌≡◌, ℕ, zero, suc, ◌+◌, ◌<◌, Bool, true, false, eqb, List, [], ◌∷◌, length, get_or, take, is_ok, Ok, Err, refl, subst, inl, inr, arith}
+use Rattle.std.proofs.Common.{◌≡◌, ℕ, zero, suc, ◌+◌, ◌<◌, Bool, true, false, eqb, List, [], ◌∷◌, length, get_or, take, is_ok, Ok, subst, inl, inr, arith}
+use Rattle.std.specs.List.{IsDistinct}
+use Rattle.std.proofs.lemmas.Map.Made.{AllPairs-from_IsDistinct}
 use Rattle.std.proofs.ByRecursion.{All-map, all_from_every}
-use Rattle.std.proofs.lemmas.Bool.{or_parts, eqb-true, eqb-false, cases_eq, both_ways}
+use Rattle.std.proofs.lemmas.Bool.{or_parts, eqb-true, eq-eqb, cases_eq}
 use Rattle.std.proofs.lemmas.Bool.Decides.{nat_tests}
-use Rattle.refusal.specs.Grounds.{Answer, unless, and_then}
+use Rattle.refusal.proofs.Granted.{unless_granted, both_granted}
 use Rattle.refusal.specs.declared.Ground.{Ground}
 use Rattle.refusal.specs.declared.Ground.TheVariants.{Picks, BaseNotCertified, StatementsMissing}
 use Rattle.record.specs.declared.Record.{Record}
 use Rattle.register.specs.Sets.{Set}
-use Rattle.quorum.specs.Quorums.{Different}
 use Rattle.merge.specs.Merges.{top}
 use Rattle.merge.proofs.Prepares.{prepared_decides}
 use Rattle.merge.specs.Checks.{first_fault, signs, fits, prepared, backed, certified, pick_grounds, base_grounds, backing_grounds, merge_grounds, Certified, signers, Picked, Checked}
-
-unless_granted : (t : Bool) (g : Ground) (p : ℕ) (a : Answer) → is_ok (unless t g p a) ≡ true → (t ≡ true) × (is_ok a ≡ true)
-unless_granted true g p a h = (refl, h)
-unless_granted false g p a h = absurd (both_ways false refl h)
-
-both_granted : (a b : Answer) → is_ok (and_then a b) ≡ true → (is_ok a ≡ true) × (is_ok b ≡ true)
-both_granted (Ok _) b h = (refl, h)
-both_granted (Err e) b h = absurd (both_ways false refl h)
 
 -- where there is no first fault, each pick passes the test at its place j
 passes_at : (g : Ground) (t : ℕ → Record → Bool) (k : ℕ) (ps : List Record) → is_ok (first_fault g t k ps) ≡ true → (i j : ℕ) → j ≡ k + i → (d : Record) → i < length ps → t j (get_or ps i d) ≡ true
@@ -34,11 +27,12 @@ each_passes : (g : Ground) (t : ℕ → Record → Bool) (ps : List Record) → 
 each_passes g t ps h i = passes_at g t 0 ps h i i (omega arith)
 
 -- picks of which none is signed by the signer of one before it
-different_from : (ps : List Record) → ((i : ℕ) (d : Record) → i < length ps → signs (take i ps) (get_or ps i d).signer ≡ false) → Different (signers ps)
+different_from : (ps : List Record) → ((i : ℕ) (d : Record) → i < length ps → signs (take i ps) (get_or ps i d).signer ≡ false) → IsDistinct eqb (signers ps)
+unfolding IsDistinct
 different_from [] h = tt
 different_from (p ∷ ps) h =
     let parts = λ (i : ℕ) (d : Record) (l : i < length ps). or_parts (eqb p.signer (get_or ps i d).signer) _ (h (suc i) d (omega arith)) in (
-      All-map (λ (j : ℕ). p.signer ≡ j → ⊥) (λ (o : Record). o.signer) ps (all_from_every _ ps (λ i d _ l. eqb-false _ _ (parts i d l).0)),
+      All-map (λ (j : ℕ). eqb p.signer j ≡ false) (λ (o : Record). o.signer) ps (all_from_every _ ps (λ i d _ l. (parts i d l).0)),
       different_from ps (λ i d l. (parts i d l).1),
     )
 
@@ -75,7 +69,7 @@ module _ (s : Set) (n q : ℕ) where
       let back = each_passes StatementsMissing (λ _ p. backed s n q t p) ps c.1 in
       record {
         number = eqb-true (length ps) q d.0;
-        different = different_from ps (λ i e l. fresh n m v t (take i ps) (get_or ps i e) (fit i e l));
+        different = AllPairs-from_IsDistinct (λ i j. (eqb-true i j, eq-eqb i j)) (signers ps) (different_from ps (λ i e l. fresh n m v t (take i ps) (get_or ps i e) (fit i e l)));
         each = all_from_every _ ps (λ i e _ l. picked_from m v t (take i ps) (get_or ps i e) (fit i e l) (back i e l));
         base = certified_from t b (unless_granted (certified s n q t b) BaseNotCertified 0 (Ok tt) c.0).0;
       }

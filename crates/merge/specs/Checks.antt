@@ -19,7 +19,7 @@
 --   signers ps                     — the signers of ps, in their order
 --   Picked s n q m v t p           — p is a good pick for the view v where t is the greatest last
 --   Checked s n q m v ps b         — ps are good picks for the view v over the base b
-use Rattle.std.specs.Prelude.{◌≡◌, ℕ, zero, suc, ◌+◌, ◌<◌, ◌≤◌, Bool, true, cond, not, ◌&&◌, ◌||◌, ◌⊎◌, List, [], ◌∷◌, length, map, take, Ok, Err, Result, ◌==◌, nat_eq, nat_le, nat_lt}
+use Rattle.std.specs.Prelude.{◌≡◌, ℕ, zero, suc, ◌+◌, ◌<◌, ◌≤◌, Bool, true, cond, not, ◌&&◌, ◌||◌, ◌⊎◌, List, [], ◌∷◌, length, map, take, Ok, Err, Result, ◌==◌, nat_eq, nat_le, nat_lt, ◌≢◌, AllPairs}
 use Rattle.std.specs.Borrow.{Bor}
 use Rattle.std.specs.List.{AllByRecursion, list_any}
 use Rattle.refusal.specs.Grounds.{Answer, unless, and_then}
@@ -30,7 +30,7 @@ use Rattle.record.specs.Layout.{keeps_layout}
 use Rattle.record.specs.Statements.{prepare_by, entry_by}
 use Rattle.record.specs.declared.Record.{Record}
 use Rattle.register.specs.Sets.{Set}
-use Rattle.quorum.specs.Quorums.{Different, quorum, Quorum}
+use Rattle.quorum.specs.Quorums.{quorum, Quorum}
 use Rattle.replica.specs.Words.{bit}
 use Rattle.merge.specs.Merges.{top, merge}
 
@@ -110,6 +110,6 @@ pub record Picked (s : Set) (n q m v t : ℕ) (p : Record) : Type 0 where
 
 pub record Checked (s : Set) (n q m v : ℕ) (ps : List Record) (b : ℕ × ℕ) : Type 0 where
   pub number : length ps ≡ q
-  pub different : Different (signers ps)
+  pub different : AllPairs (λ i j. i ≢ j) (signers ps)
   pub each : AllByRecursion (Picked s n q m v (top ps)) ps
   pub base : Certified s n q (top ps) b

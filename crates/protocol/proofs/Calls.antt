@@ -1,5 +1,6 @@
 -- Each call is a step of the rules.
 use Rattle.std.proofs.Common.{◌≡◌, ℕ, ◌<◌, ◌≤◌, true, false, List, length, is_ok, Ok, sym, ap, subst, arith, rules}
+use Rattle.refusal.proofs.Granted.{both_granted}
 use Rattle.refusal.specs.Grounds.{and_then, unless}
 use Rattle.refusal.specs.declared.Ground.TheVariants.{ViewStartMissing}
 use Rattle.record.specs.Statements.{reply_by, view_start_by}
@@ -38,7 +39,7 @@ use Rattle.protocol.specs.Rules as moves
 use Rattle.protocol.specs.Rules.{Allowed, Works, Open, Upto, Dropped}
 use Rattle.protocol.specs.Steps.{model}
 use Rattle.protocol.proofs.Books.{known_below}
-use Rattle.protocol.proofs.Stepping.{Sound, Kept, asks, then_left, then_right, speaks, speaks_only, forged, turns, stamps_one}
+use Rattle.protocol.proofs.Stepping.{Sound, Kept, asks, speaks, speaks_only, forged, turns, stamps_one}
 
 module _ (u : Setup) (V : Service) (x : State) (S : Sound u V x) where
   -- a replica below n has a place
@@ -150,20 +151,21 @@ module _ (u : Setup) (V : Service) (x : State) (S : Sound u V x) where
   lead_step i ps n w =
       speaks_only u V x S (lead u x i ps n w).grounds i _
       (λ e.
-      let rest = then_right (layout_grounds ps) _ e in
+      let rest = (both_granted (layout_grounds ps) _ e).1 in
       (low i (search rules), moves.lead i ps (n, w) (record { honest = search rules; leaving = search rules }) (search rules) (checked_from _ _ _ _ _ ps (n, w) (search rules))))
 
   pub start_step : (i : ℕ) (ps : List Record) (n w : ℕ) → Kept u V x (acting x (start u x i ps n w))
   start_step i ps n w =
       speaks u V x S (start u x i ps n w).grounds i _ _
       (λ e.
-      let rest = then_right (layout_grounds ps) _ e in
+      let rest = (both_granted (layout_grounds ps) _ e).1 in
       let line = merge (n, w) ps in
       let grounds = merge_grounds x.held (replicas u) (quorum_size u) (length x.stamped) (replica_at x i).target ps (n, w) in
       let led = x.held (view_start_by (leader u (replica_at x i).target) (replica_at x i).target line.0 line.1) in
       let both : is_ok (and_then grounds (unless led ViewStartMissing 0 (Ok tt))) ≡ true = search rules in
-      let merges = then_left grounds _ both in
-      let leads = then_right grounds _ both in (
+      let parts = both_granted grounds _ both in
+      let merges = parts.0 in
+      let leads = parts.1 in (
         low i (search rules),
         moves.start i ps (n, w) (record { honest = search rules; leaving = search rules }) (search rules) (search rules)
             (checked_from _ _ _ _ _ ps (n, w) merges),

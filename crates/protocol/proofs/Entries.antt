@@ -30,8 +30,9 @@ use Rattle.protocol.specs.Call.{Call, Outcome, Meaning, Stamp, Deliver, Find, Dr
 use Rattle.protocol.specs.Life.{Life, run, outcomes, Enters, state_at, nth}
 use Rattle.protocol.specs.Law.{Entered, Signers}
 use Rattle.protocol.proofs.Books.{Grown, grown_refl, book_push}
-use Rattle.protocol.proofs.Signing.{count_of_list, list_of_count}
-use Rattle.protocol.proofs.Stepping.{then_right, entered_held}
+use Rattle.protocol.proofs.Signing.{count_of_list, list_of_count, different}
+use Rattle.protocol.proofs.Stepping.{entered_held}
+use Rattle.refusal.proofs.Granted.{both_granted}
 
 pub record Effect (x : State) (m : Meaning) : Type 0 where
   pub held : (r : Record) → (Said x.held r) ⊎ (m.entry ≡ Some r) → Said m.after.held r
@@ -84,7 +85,7 @@ module _ (x : State) where
   acts a g =
       effect_if (is_ok (answer_to x a)) _ _ _ a.says
       (λ e.
-      let ok = then_right a.grounds (entry_answer x a.says) e in
+      let ok = (both_granted a.grounds (entry_answer x a.says) e).1 in
       record { held = held_with_all a.says ok; only = held_with_only a.says ok; grown = g })
 
   -- a call that stamps nothing
@@ -197,6 +198,6 @@ signers_of_quorum y k r q =
     record {
       who = l.who;
       enough = l.enough;
-      different = l.different;
+      different = different (replicas y.bench) (said (state_at y k).held r) (quorum_size y.bench) l;
       each = All-weaker _ _ (λ i t. (t.0, entered_of_held y k (signed_by r i) t.1)) l.who l.each;
     }

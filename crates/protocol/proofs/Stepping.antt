@@ -6,6 +6,7 @@ use Rattle.std.proofs.Common.{◌≡◌, ℕ, ◌<◌, ◌≤◌, Bool, true, fa
 use Rattle.std.proofs.lemmas.List.{get_or-set_same, get_or-set_other, length-set}
 use Rattle.std.proofs.lemmas.Bool.{cases_Bool, cases_eq, cond-true, cond-false, cond_both, eq-eqb, ne_eqb, or_left}
 use Rattle.std.proofs.lemmas.Bool.Decides.{nat_tests}
+use Rattle.refusal.proofs.Granted.{both_granted}
 use Rattle.refusal.specs.Grounds.{Answer, refused, and_then}
 use Rattle.refusal.specs.declared.Ground.TheVariants.{RegisterFull}
 use Rattle.refusal.specs.declared.Refusal.{Refusal}
@@ -53,14 +54,6 @@ own_or_full x a f = record { either = by_grounds a.grounds a.says f }
     by_grounds (Err e') o f e h = inl cc
     by_grounds (Ok t) None f e h = cc
     by_grounds (Ok t) (Some r) f e h = inr (full r (f refl r refl) e h)
-
-pub then_left : (a b : Answer) → is_ok (and_then a b) ≡ true → is_ok a ≡ true
-then_left (Ok t) b e = refl
-then_left (Err f) b e = e
-
-pub then_right : (a b : Answer) → is_ok (and_then a b) ≡ true → is_ok b ≡ true
-then_right (Ok t) b e = e
-then_right (Err f) b e = let z : ◌≡◌ {A = ℕ} 0 1 = cc in absurd (omega arith)
 
 module _ (s : Set) (n : ℕ) (r : Record) (ok : is_ok (entering s n r) ≡ true) where
   pub entered_layout : Layout r
@@ -135,9 +128,8 @@ module _ (u : Setup) (V : Service) (x : State) (S : Sound u V x) where
       let M =
       cond_both (is_ok (answer_to x a)) _ x (λ (z : State). Moved u V x z)
       (λ e.
-      let own = then_left a.grounds (entry_answer x a.says) e in
-      let ok = then_right a.grounds (entry_answer x a.says) e in
-      record { step = record { move = v; allowed = allowed own; entry = entry ok; moves = moves own ok }; room = room })
+      let both = both_granted a.grounds (entry_answer x a.says) e in
+      record { step = record { move = v; allowed = allowed both.0; entry = entry both.1; moves = moves both.0 both.1 }; room = room })
       (λ _. stays) in
       record { step = M.step; room = M.room; refusals = λ s. own_or_full x a (layout s) }
 

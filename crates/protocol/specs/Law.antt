@@ -10,11 +10,11 @@
 --   OneLedger y           — the law for the life y
 --   OneLedgerAlways       — every life keeps the law, of every bench that opens, with every service and every number of free places
 -- The single service is one service, freshly cleared, that takes the slots from 0 upward and is fed the operations stamped in the life; a no-op of the line and an unstamped slot leave it as it is. It answers for a stamped slot that is no no-op of the line, so a certified answer's slot is one.
-use Rattle.std.specs.Prelude.{◌≡◌, ℕ, ◌%◌, ◌^◌, ◌<◌, ◌≤◌, true, false, List, length, take, Some}
+use Rattle.std.specs.Prelude.{◌≡◌, ℕ, ◌%◌, ◌^◌, ◌<◌, ◌≤◌, true, false, ◌≢◌, List, length, take, Some, AllPairs}
 use Rattle.std.specs.List.{AllByRecursion}
 use Rattle.record.specs.Statements.{reply_by, commit_by}
 use Rattle.record.specs.declared.Record.{Record}
-use Rattle.quorum.specs.Quorums.{Different, signed_by}
+use Rattle.quorum.specs.Quorums.{signed_by}
 use Rattle.replica.specs.Words.{bit}
 use Rattle.protocol.specs.Setup.{replicas, quorum_size}
 use Rattle.protocol.specs.Service.{book, single}
@@ -30,7 +30,7 @@ pub record Signers (y : Life) (k : ℕ) (r : Record) : Type 0 where
   -- q numbers
   pub enough : length who ≡ quorum_size y.bench
   -- no two of them alike
-  pub different : Different who
+  pub different : AllPairs (λ i j. i ≢ j) who
   -- each of a replica below n, under which a granted call entered r
   pub each : AllByRecursion (λ (i : ℕ). (i < replicas y.bench) × Entered y k (signed_by r i)) who
 

@@ -1,5 +1,4 @@
 -- Who said a statement, and how many did.
---   Different is       — no number stands twice in the list is
 --   signed_by r i      — the record r with the signer i
 --   said s r i         — replica i said r: the set s has r with the signer i
 --   count n p          — how many numbers below n pass the test p
@@ -10,14 +9,9 @@
 --   IsNext p s t i     — i is the first number of the range s that passes the test p; it is below 16, and the range t is what is left after it
 --   FindsNext p s t a  — a is what looking for the first number of s that passes p answers, where t is left: that number, or nothing if none passes
 use Rattle.std.specs.declared.ops.Range.{Range}
-use Rattle.std.specs.Prelude.{◌≡◌, ℕ, zero, suc, ◌+◌, ◌<◌, ◌≤◌, Bool, true, false, cond, List, [], ◌∷◌, Some, None, Option, ◌≢◌, nat_le, slice_index}
-use Rattle.std.specs.List.{AllByRecursion}
+use Rattle.std.specs.Prelude.{◌≡◌, ℕ, zero, suc, ◌+◌, ◌<◌, ◌≤◌, Bool, true, false, cond, List, Some, None, Option, ◌≢◌, nat_le, slice_index}
 use Rattle.record.specs.declared.Record.{Record}
 use Rattle.register.specs.Sets.{Set}
-
-abbrev pub Different : List ℕ → Type 0
-Different [] = Unit {0}
-Different (i ∷ is) = AllByRecursion (λ (j : ℕ). i ≢ j) is × Different is
 
 abbrev pub signed_by : Record → ℕ → Record
 signed_by r i =
