@@ -9,7 +9,7 @@
 --   example_outcomes  — what comes of each of its calls
 --   OutcomesHold      — these are its outcomes
 --   LinesHold         — after 59 calls, right after they entered view 1, replicas 0, 1 and 2 have the line of length 2 with a no-op at slot 1
---   Certifies         — the answers for slots 0 and 2 and the no-op at slot 1 are certified, as the law says it
+--   Certifies a b     — at the end the answer a for slot 0, the no-op at slot 1 and the answer b for slot 2 are certified, as the law says it
 -- In view 0 slot 0 is answered and slot 1 skipped; in view 1 slot 2 is answered, past the no-op.
 -- The register has as many places as different statements are said, so at the end it is full.
 -- Every ground is met but the three of the open, which is granted, and that of the 64 slots.
@@ -139,7 +139,7 @@ LinesHold =
     × (replica_at (state_at example 59) 1 ≡ entered 1 2 2)
     × (replica_at (state_at example 59) 2 ≡ entered 1 2 2)
 
-pub record Certifies : Type 0 where
-  pub answered : Answered example 68 0 0 0 5
+pub record Certifies (a b : ℕ) : Type 0 where
+  pub answered : Answered example 68 0 0 0 a
   pub skipped : Skipped example 68 0 1
-  pub answered_past : Answered example 68 1 2 2 12
+  pub answered_past : Answered example 68 1 2 2 b

@@ -1,7 +1,9 @@
 -- What the rules let an honest replica say keeps the layout, where the service answers 64 bits.
 --   SaysLayout a  — the statement that the move a says for a replica below 16, if it says one, keeps the layout
-use Rattle.std.proofs.Common.{◌≡◌, ℕ, ◌^◌, ◌<◌, ◌≤◌, false, arith, pow_pos, pow_mono, lt_of_lt_of_le, mod-lt}
+use Rattle.std.proofs.Common.{◌≡◌, ℕ, ◌^◌, ◌<◌, ◌≤◌, false, List, arith, pow_pos, pow_mono, lt_of_lt_of_le, mod-lt}
 use Rattle.record.specs.Layout.{Layout}
+use Rattle.record.specs.declared.Record.{Record}
+use Rattle.merge.specs.Merges.{merge}
 use Rattle.replica.specs.Replicas.{reach}
 use Rattle.replica.specs.Verdicts.{verdict_number}
 use Rattle.replica.specs.declared.Replica.{Replica}
@@ -9,9 +11,9 @@ use Rattle.replica.specs.declared.Verdict.{Verdict}
 use Rattle.replica.specs.declared.Verdict.TheVariants.{Operation, NoOp}
 use Rattle.replica.proofs.Words.{one_past_under, one_past_most}
 use Rattle.protocol.specs.Setup.{Setup, foreign}
-use Rattle.protocol.specs.Service.{Service, Book, answer_at, Short}
+use Rattle.protocol.specs.Service.{Service, Book, Known, answer_at, Short}
 use Rattle.protocol.specs.Model.{Model, stamps, Move, rests, stamping, forges, becomes, says}
-use Rattle.protocol.specs.Rules.{Allowed, rest, stamp, deliver, find, drop, decide, prepare, commit, settle, reply, leave, forge, lead, start, enter}
+use Rattle.protocol.specs.Rules.{Allowed, Leaves, Merging, rest, stamp, deliver, find, drop, decide, prepare, commit, settle, reply, leave, forge, lead, start, enter}
 use Rattle.protocol.proofs.Books.{all_stamped}
 use Rattle.protocol.proofs.Invariant.{Inv}
 use Rattle.protocol.proofs.Keeping.{slot_low}
@@ -39,6 +41,21 @@ module _ (u : Setup) (V : Service) (short : Short V) (m : Model) (I : Inv u V m)
   line_short : (i : ℕ) → foreign u i ≡ false → (m.replica i).length ≤ 64
   line_short i f = omega (arith, all_stamped m.stamped (m.replica i).length (I.good i f).line.known, I.short)
 
+  -- a statement on a gap: FIND or DROP
+  gap_layout : (k i s : ℕ) → 2 ≤ k → k ≤ 3 → foreign u i ≡ false → Known (stamps m) s → i < 16 → Layout (record { kind = k; signer = i; view = (m.replica i).view; last = 0; slot = s; verdict = 0; word = 0; result = 0 })
+  gap_layout k i s a b f p low = omega (arith, (I.good i f).bounds, slot_low u V m I s p, pow_pos s)
+
+  -- a vote: DECISION, PREPARE or COMMIT
+  vote_layout : (k i s : ℕ) (d : Verdict) → 4 ≤ k → k ≤ 6 → foreign u i ≡ false → Known (stamps m) s → i < 16 → Layout (record { kind = k; signer = i; view = (m.replica i).view; last = 0; slot = s; verdict = verdict_number d; word = 0; result = 0 })
+  vote_layout k i s d a b f p low = omega (arith, (I.good i f).bounds, slot_low u V m I s p, pow_pos s, verdict_small d)
+
+  -- a merged line: VIEW-START or ENTRY
+  line_layout :
+      (k i : ℕ) (ps : List Record) (b : ℕ × ℕ) → 8 ≤ k → k ≤ 9 → Leaves u i (m.replica i) → Merging u m (m.replica i).target ps b → i < 16
+      → Layout (record { kind = k; signer = i; view = (m.replica i).target; last = 0; slot = (merge b ps).0; verdict = 0; word = (merge b ps).1; result = 0 })
+  line_layout k i ps b from to w C low =
+      omega (arith, w.leaving, (I.good i w.honest).bounds, merge_small u V m I (m.replica i).target ps b C, merge_stamped u V m I (m.replica i).target ps b C, I.short)
+
   pub allowed_layout : (a : Move) → Allowed u V m a → SaysLayout a
   allowed_layout a rest = tt
   allowed_layout a (stamp op p) = tt
@@ -48,22 +65,15 @@ module _ (u : Setup) (V : Service) (short : Short V) (m : Model) (I : Inv u V m)
   allowed_layout a (deliver i w p d) =
       let G = I.good i w.honest in
       λ low. omega (arith, low, G.bounds, G.line.small, slot_low u V m I (m.replica i).length (p (m.replica i).length (omega arith)), answer_small (stamps m) (m.replica i).word (m.replica i).length)
-  allowed_layout a (find i w e p) =
-      λ low. omega (arith, low, (I.good i w.honest).bounds, slot_low u V m I (m.replica i).length p, pow_pos (m.replica i).length)
-  allowed_layout a (drop i w e p) =
-      λ low. omega (arith, low, (I.good i w.honest).bounds, slot_low u V m I (m.replica i).length p, pow_pos (m.replica i).length)
-  allowed_layout a (decide i s d w O e q n) =
-      λ low. omega (arith, low, (I.good i w.honest).bounds, slot_low u V m I s O.known, pow_pos s, verdict_small d)
-  allowed_layout a (prepare i s d w O e q n) =
-      λ low. omega (arith, low, (I.good i w.honest).bounds, slot_low u V m I s O.known, pow_pos s, verdict_small d)
-  allowed_layout a (commit i s d w O q) =
-      λ low. omega (arith, low, (I.good i w.honest).bounds, slot_low u V m I s O.known, pow_pos s, verdict_small d)
+  allowed_layout a (find i w e p) = gap_layout 2 i (m.replica i).length (omega arith) (omega arith) w.honest p
+  allowed_layout a (drop i w e p) = gap_layout 3 i (m.replica i).length (omega arith) (omega arith) w.honest p
+  allowed_layout a (decide i s d w O e q n) = vote_layout 4 i s d (omega arith) (omega arith) w.honest O.known
+  allowed_layout a (prepare i s d w O e q n) = vote_layout 5 i s d (omega arith) (omega arith) w.honest O.known
+  allowed_layout a (commit i s d w O q) = vote_layout 6 i s d (omega arith) (omega arith) w.honest O.known
   allowed_layout a (reply i s w p q z) =
       λ low. omega (arith, low, (I.good i w.honest).bounds, slot_low u V m I s (p s (omega arith)), mod-lt (m.replica i).word (pow_pos s), answer_small (stamps m) (m.replica i).word s)
   allowed_layout a (leave i t f p q) =
       let G = I.good i f in
       λ low. omega (arith, low, p, q, G.bounds, reach_small (m.replica i) G.bounds.small, line_short i f, one_past_most (m.replica i).sealed)
-  allowed_layout a (lead i ps b w e C) =
-      λ low. omega (arith, low, w.leaving, (I.good i w.honest).bounds, merge_small u V m I (m.replica i).target ps b C, merge_stamped u V m I (m.replica i).target ps b C, I.short)
-  allowed_layout a (start i ps b w k e C) =
-      λ low. omega (arith, low, w.leaving, (I.good i w.honest).bounds, merge_small u V m I (m.replica i).target ps b C, merge_stamped u V m I (m.replica i).target ps b C, I.short)
+  allowed_layout a (lead i ps b w e C) = line_layout 8 i ps b (omega arith) (omega arith) w C
+  allowed_layout a (start i ps b w k e C) = line_layout 9 i ps b (omega arith) (omega arith) w C

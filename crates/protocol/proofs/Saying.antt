@@ -1,6 +1,6 @@
 -- What is said after one more statement, and what stays true of all that was said.
 --   Grows h h'  — the set h' has all that h has
-use Rattle.std.proofs.Common.{◌≡◌, ℕ, ◌⊎◌, sym, ap, ◌∙◌, subst, inl, inr, arith}
+use Rattle.std.proofs.Common.{◌≡◌, refl, ℕ, ◌⊎◌, sym, ap, ◌∙◌, subst, inl, inr, arith}
 use Rattle.std.proofs.lemmas.Bool.{or_left, or_cases}
 use Rattle.record.specs.Layout.{Layout}
 use Rattle.record.specs.Statements.{prepare_by, view_change_by, entry_by}
@@ -44,38 +44,30 @@ pub started_grows : (u : Setup) (h h' : Set) → Grows h h' → (v : ℕ) (b : �
 started_grows u h h' g v b (inl e) = inl e
 started_grows u h h' g v b (inr e) = inr (e.0, quorum_grows u h h' g (entry_by 0 v b.0 b.1) e.1)
 
+with_fields :
+    (y : Record) (k l d w n : ℕ) → y.kind ≡ k → y.last ≡ l → y.verdict ≡ d → y.word ≡ w → y.result ≡ n
+    → y ≡ record { kind = k; signer = y.signer; view = y.view; last = l; slot = y.slot; verdict = d; word = w; result = n }
+with_fields y k l d w n ek el ed ew en i =
+    record {
+      kind = ek i;
+      signer = y.signer;
+      view = y.view;
+      last = el i;
+      slot = y.slot;
+      verdict = ed i;
+      word = ew i;
+      result = en i;
+    }
+
 -- a PREPARE that keeps the layout is made of its signer, view, slot and verdict
 pub as_prepare : (y : Record) → Layout y → y.kind ≡ 5 → y ≡ prepare_by y.signer y.view y.slot y.verdict
 as_prepare y l e =
-    let last : y.last ≡ 0 = l.no_last (λ k. omega arith) in
-    let word : y.word ≡ 0 = l.no_word (omega arith) (omega arith) in
-    let result : y.result ≡ 0 = l.no_result (λ k. omega arith) in
-    λ i. record {
-      kind = e i;
-      signer = y.signer;
-      view = y.view;
-      last = last i;
-      slot = y.slot;
-      verdict = y.verdict;
-      word = word i;
-      result = result i;
-    }
+    with_fields y 5 0 y.verdict 0 0 e (l.no_last (λ k. omega arith)) refl (l.no_word (omega arith) (omega arith)) (l.no_result (λ k. omega arith))
 
 -- and a VIEW-CHANGE of its signer, view, last view, reach and word
 pub as_view_change : (y : Record) → Layout y → y.kind ≡ 7 → y ≡ view_change_by y.signer y.view y.last y.slot y.word
 as_view_change y l e =
-    let verdict : y.verdict ≡ 0 = l.no_verdict_above (omega arith) in
-    let result : y.result ≡ 0 = l.no_result (λ k. omega arith) in
-    λ i. record {
-      kind = e i;
-      signer = y.signer;
-      view = y.view;
-      last = y.last;
-      slot = y.slot;
-      verdict = verdict i;
-      word = y.word;
-      result = result i;
-    }
+    with_fields y 7 y.last 0 y.word 0 e refl (l.no_verdict_above (omega arith)) refl (l.no_result (λ k. omega arith))
 
 competing_sym : (x y : Record) → Competing x y → Competing y x
 competing_sym x y r =

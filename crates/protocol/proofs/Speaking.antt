@@ -98,6 +98,28 @@ module _ (u : Setup) (V : Service) (h : Set) (B : Book) (i : ℕ) (r : Replica) 
       })
       (λ y e k. absurd (omega (arith, k.unique)))
 
+  -- a REPLY along the line: its word has the line's bits through its slot, and where i dropped an operation through it, a quorum committed it
+  along_line :
+      (s w a n : ℕ) → s < n → Upto B s → a ≡ answer_at V B r.word s → ((l : ℕ) → l ≤ s → bit w l ≡ bit r.word l)
+      → ((l : ℕ) → Said h (drop_by i r.view l) → l ≤ s → bit r.word l ≡ false → QuorumSaid u h (commit_by 0 r.view l 0))
+      → Reply u V (added h (reply_by i r.view s w a)) B i r.view n r.view s w a
+  along_line s w a n below p right same kept =
+      let x = reply_by i r.view s w a in
+      let g : Grows h (added h x) = added_grows h x in
+      let based = G.line.based in
+      record {
+        now = λ e. below;
+        stamped = p;
+        right = right ∙ answer_alike V B B r.word w s (λ l k. refl) (λ l k. sym (same l (omega arith)));
+        base = r.base;
+        base_word = based.base_word;
+        started = started_grows u h (added h x) g r.view (r.base, based.base_word) based.started;
+        below = λ l k t. same l k ∙ based.below l t;
+        above = λ l k t e. quorum_grows u h (added h x) g (commit_by 0 r.view l 1) (G.line.skipped l t (sym (same l k) ∙ e));
+        dropped = λ l e k f.
+            quorum_grows u h (added h x) g (commit_by 0 r.view l 0) (kept l (own_drops s w a r.view l e) k (sym (same l k) ∙ f));
+      }
+
   pub deliver_good :
       (a : ℕ) → r.length < 64 → Upto B r.length → h (drop_by i r.view r.length) ≡ false → a ≡ answer_at V B r.word r.length
       → Good u V (added h (reply_by i r.view r.length r.word a)) B i (delivered r)
@@ -107,11 +129,10 @@ module _ (u : Setup) (V : Service) (h : Set) (B : Book) (i : ℕ) (r : Replica) 
       let L = G.line in
       let more : longer r.length ≡ r.length + 1 = longer_is r.length room in
       let wider : 2 ^ r.length ≤ 2 ^ longer r.length = pow_mono (omega arith) in
-      let old = own_drops r.length r.word a r.view in
-      let kept : (l : ℕ) → Said (added h x) (drop_by i r.view l) → l ≤ r.length → bit r.word l ≡ false → QuorumSaid u (added h x) (commit_by 0 r.view l 0) =
+      let kept : (l : ℕ) → Said h (drop_by i r.view l) → l ≤ r.length → bit r.word l ≡ false → QuorumSaid u h (commit_by 0 r.view l 0) =
       λ l e q f. elim (cases_eq l r.length) [
-        | inl t ↦ absurd (both_ways (h (drop_by i r.view r.length)) d (subst (λ (n : ℕ). h (drop_by i r.view n) ≡ true) t (old l e)))
-        | inr t ↦ quorum_grows u h (added h x) g (commit_by 0 r.view l 0) (L.kept l (old l e) (omega arith) f)
+        | inl t ↦ absurd (both_ways (h (drop_by i r.view r.length)) d (subst (λ (n : ℕ). h (drop_by i r.view n) ≡ true) t e))
+        | inr t ↦ L.kept l e (omega arith) f
       ] in
       replied r.length r.word a (delivered r) refl refl refl refl (omega arith)
       (record {
@@ -119,19 +140,9 @@ module _ (u : Setup) (V : Service) (h : Set) (B : Book) (i : ℕ) (r : Replica) 
         small = lt_of_lt_of_le L.small wider;
         based = based_later u h (added h x) g B B (grown_refl B) L.based;
         skipped = λ l q e. quorum_grows u h (added h x) g (commit_by 0 r.view l 1) (L.skipped l q e);
-        kept = λ l e q f. kept l e (omega arith) f;
+        kept = λ l e q f. quorum_grows u h (added h x) g (commit_by 0 r.view l 0) (kept l (own_drops r.length r.word a r.view l e) (omega arith) f);
       })
-      (record {
-        now = λ e. omega arith;
-        stamped = p;
-        right = right;
-        base = r.base;
-        base_word = L.based.base_word;
-        started = started_grows u h (added h x) g r.view (r.base, L.based.base_word) L.based.started;
-        below = λ l q t. L.based.below l t;
-        above = λ l q t e. quorum_grows u h (added h x) g (commit_by 0 r.view l 1) (L.skipped l t e);
-        dropped = kept;
-      })
+      (along_line r.length r.word a (longer r.length) (omega arith) p right (λ l k. refl) kept)
 
   pub reply_good :
       (s a : ℕ) → Upto B s → s < r.length → bit r.word s ≡ false → a ≡ answer_at V B r.word s
@@ -140,7 +151,6 @@ module _ (u : Setup) (V : Service) (h : Set) (B : Book) (i : ℕ) (r : Replica) 
       let w = r.word % 2 ^ s in
       let x = reply_by i r.view s w a in
       let g : Grows h (added h x) = added_grows h x in
-      let L = G.line in
       let same : (l : ℕ) → l ≤ s → bit w l ≡ bit r.word l =
       λ l k. elim (cases_lt l s) [
         | inl t ↦ bit_mod s l r.word t
@@ -152,17 +162,5 @@ module _ (u : Setup) (V : Service) (h : Set) (B : Book) (i : ℕ) (r : Replica) 
       (line_kept u V h (added h x) B B (grown_refl B) i r r
       (stays h (added h x) i r g (λ v s' l n p. own_drops s w a v l) (own_replies s w a)
       (λ v l p. added_other h x (commit_by i v l 1) (λ k. omega arith)))
-      refl refl refl refl L)
-      (record {
-        now = λ e. q;
-        stamped = p;
-        right = right ∙ answer_alike V B B r.word w s (λ l k. refl) (λ l k. sym (same l (omega arith)));
-        base = r.base;
-        base_word = L.based.base_word;
-        started = started_grows u h (added h x) g r.view (r.base, L.based.base_word) L.based.started;
-        below = λ l k t. same l k ∙ L.based.below l t;
-        above = λ l k t e. quorum_grows u h (added h x) g (commit_by 0 r.view l 1) (L.skipped l t (sym (same l k) ∙ e));
-        dropped = λ l e k f.
-            quorum_grows u h (added h x) g (commit_by 0 r.view l 0)
-            (L.kept l (own_drops s w a r.view l e) (omega arith) (sym (same l k) ∙ f));
-      })
+      refl refl refl refl G.line)
+      (along_line s w a r.length q p right same (λ l e k f. G.line.kept l e (omega arith) f))
