@@ -4,6 +4,7 @@
 mod kind;
 mod layout;
 mod pack;
+mod statement;
 mod tape;
 
 pub use kind::{Kind, UnknownKind};
