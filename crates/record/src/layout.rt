@@ -30,8 +30,8 @@ impl Record {
     }
 }
 
-// Whether `word` has no bit at or above `slot`.
-fn ends_below(word: u64, slot: u8) -> bool
+/// Whether the word has no bit at or above the slot.
+pub fn ends_below(word: u64, slot: u8) -> bool
     ensures { result ≡ nat_lt word (2 ^ slot) }
 {
     slot >= 64 || word < 1u64 << slot

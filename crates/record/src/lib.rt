@@ -8,6 +8,7 @@ mod statement;
 mod tape;
 
 pub use kind::{Kind, UnknownKind};
+pub use layout::ends_below;
 pub use tape::{Part, Reader, part_at};
 
 /// The number of bytes that a record is packed into.

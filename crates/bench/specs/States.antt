@@ -1,0 +1,47 @@
+-- A bench as its rules see it, and what a call makes of it.
+-- Throughout, held and free say what a register of the bench's type holds, and how many free places it has.
+--   state_of held free b          — the state of the bench b
+--   service_of fresh next answer s — a service in the state s, by what it answers to an operation after those that it was fed since it was cleared
+--   Does held free b a r c        — a call that is the action a, given who the replicas are and the state of the bench, answered r on the bench b and left the bench c
+use Rattle.std.specs.Prelude.{◌≡◌, ℕ, [], replicate}
+use Rattle.refusal.specs.Grounds.{Answer}
+use Rattle.service.specs.Operations.{after}
+use Rattle.register.specs.Sets.{Set}
+use Rattle.protocol.specs.Setup.{Setup}
+use Rattle.protocol.specs.Service.{Service}
+use Rattle.protocol.specs.State.{State, Action, answer_to, state_after}
+use Rattle.replica.specs.Replicas.{still}
+use Rattle.bench.specs.declared.setup.Setup as code
+use Rattle.bench.specs.Setups.{setup_of}
+use Rattle.bench.specs.declared.open.Bench.{Bench}
+
+abbrev pub service_of : {A : Type 0} → (A → A) → (A → ℕ → A) → (A → ℕ → ℕ) → A → Service
+service_of fresh next answer s ops op = answer (after next (fresh s) ops) op
+
+abbrev pub state_of : {R S : Type 0} → (R → Set) → (R → ℕ) → Bench R S → State
+state_of held free b =
+    record {
+      stamped = b.status.operations.items;
+      held = held b.register.now;
+      free = free b.register.now;
+      replicas = b.status.replicas;
+    }
+
+pub record Does
+    {R S : Type 0} (held : R → Set) (free : R → ℕ) (b : Bench R S) (a : Setup → State → Action) (r : Answer) (c : Bench R S) : Type 0 where
+  pub answer : r ≡ answer_to (state_of held free b) (a (setup_of b.setup) (state_of held free b))
+  pub after : state_of held free c ≡ state_after (state_of held free b) (a (setup_of b.setup) (state_of held free b))
+  -- TODO refused the register as it was, with the memory that is lent to it
+  -- pub refused : is_ok r ≡ false → c.register.now ≡ b.register.now
+  -- who the replicas are stays
+  pub setup : c.setup ≡ b.setup
+  -- the bench keeps the register and the service that are lent to it
+  pub register : c.register.ghost_name ≡ b.register.ghost_name
+  pub service : c.service.ghost_name ≡ b.service.ghost_name
+
+-- the bench b was opened with the setup s over the register r
+pub record Opened {R S : Type 0} (held : R → Set) (free : R → ℕ) (s : code.Setup) (r : R) (b : Bench R S) : Type 0 where
+  pub setup : b.setup ≡ s
+  pub register : b.register.now ≡ r
+  -- nothing is stamped, and every replica is still
+  pub state : state_of held free b ≡ record { stamped = []; held = held r; free = free r; replicas = replicate 16 still }

@@ -1,0 +1,42 @@
+//! What a service answers along a word.
+ghost use Rattle.std.specs.Prelude.{◌≡◌, ◌<◌, List, ℕ, length};
+ghost use Rattle.bench.specs.States.{service_of};
+ghost use Rattle.protocol.specs.Service.{book, answer_at};
+
+use crate::open::Bench;
+use register::Register;
+use replica::bit;
+use service::Service;
+
+// Clears the service, feeds it the operations below the slot but for the word's no-ops, and answers
+// what it gives for the operation of the slot.
+#[tactic(auto, using(crate::proofs::Feeding::fed_none, crate::proofs::Feeding::fed_no_op, crate::proofs::Feeding::fed_one, crate::proofs::Feeding::answered))]
+fn answer_along<S: Service>(service: &mut S, operations: &[u64], word: u64, slot: u8) -> u64
+    requires { slot < length operations.now }
+    ensures answer { result ≡ answer_at (service_of S.fresh S.next S.answer (S.state service.old)) (book operations.now) word slot }
+    ensures kind { S.fresh (S.state service.new) ≡ S.fresh (S.state service.old) }
+{
+    service.clear();
+    for l in 0..slot {
+        if bit(word, l) {
+            continue;
+        }
+        service.apply(operations[usize::from(l)]);
+    }
+    service.apply(operations[usize::from(slot)])
+}
+
+impl<'a, R: Register, S: Service> Bench<'a, R, S> {
+    // What the bench's service answers for the slot along the word.
+    pub(crate) fn answer_along(&mut self, word: u64, slot: u8) -> u64
+        requires { slot < length self.old.status.operations.items }
+        ensures answer { result ≡ answer_at (service_of S.fresh S.next S.answer (S.state self.old.service.now)) (book self.old.status.operations.items) word slot }
+        ensures kind { S.fresh (S.state self.new.service.now) ≡ S.fresh (S.state self.old.service.now) }
+        ensures status { self.new.status ≡ self.old.status }
+        ensures setup { self.new.setup ≡ self.old.setup }
+        ensures register { self.new.register ≡ self.old.register }
+        ensures lent { self.new.service.ghost_name ≡ self.old.service.ghost_name }
+    {
+        answer_along(self.service, self.status.operations(), word, slot)
+    }
+}

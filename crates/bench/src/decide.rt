@@ -1,0 +1,38 @@
+//! The call decide.
+ghost use Rattle.std.specs.Prelude.{◌≡◌};
+ghost use Rattle.bench.specs.Setups.{setup_of};
+ghost use Rattle.bench.specs.States.{state_of, Does};
+ghost use Rattle.protocol.specs.Decide.{decide};
+
+use crate::grounds::check_open;
+use crate::open::Bench;
+use record::Record;
+use refusal::Refusal;
+use register::Register;
+use replica::Verdict;
+use service::Service;
+
+impl<'a, R: Register, S: Service> Bench<'a, R, S> {
+    // The grounds against it, but for the register's own.
+    fn may_decide(&self, replica: u64, slot: u64, verdict: Verdict) -> Result<(), Refusal>
+        ensures { result ≡ (decide (setup_of self.now.setup) (state_of R.held R.free self.now) replica slot verdict).grounds }
+    {
+        self.check_work(replica, slot)?;
+        let r = self.replica(replica);
+        self.check_leader(replica, r.view)?;
+        check_open(&r, slot)?;
+        let slot = slot as u8;
+        self.check_none(&Record::decision_by(replica as u8, r.view, slot, verdict.other().into()))?;
+        self.check_dropped(r.view, slot, verdict)
+    }
+
+    /// Replica `replica`, the leader, says its DECISION on the slot.
+    pub fn decide(&mut self, replica: u64, slot: u64, verdict: Verdict) -> Result<(), Refusal>
+        ensures does { Does R.held R.free self.old (λ u x. decide u x replica slot verdict) result self.new }
+        ensures service { self.new.service.now ≡ self.old.service.now }
+    {
+        self.may_decide(replica, slot, verdict)?;
+        let r = self.replica(replica);
+        self.register.enter(&Record::decision_by(replica as u8, r.view, slot as u8, verdict.into()))
+    }
+}

@@ -1,0 +1,36 @@
+//! The call drop.
+ghost use Rattle.std.specs.Prelude.{◌≡◌};
+ghost use Rattle.bench.specs.Setups.{setup_of};
+ghost use Rattle.bench.specs.States.{state_of, Does};
+ghost use Rattle.protocol.specs.Drop.{drop};
+
+use crate::open::Bench;
+use record::Record;
+use refusal::Refusal;
+use register::Register;
+use replica::Step;
+use service::Service;
+
+impl<'a, R: Register, S: Service> Bench<'a, R, S> {
+    // The grounds against it, but for the register's own.
+    fn may_drop(&self, replica: u64) -> Result<(), Refusal>
+        ensures { result ≡ (drop (setup_of self.now.setup) (state_of R.held R.free self.now) replica).grounds }
+    {
+        self.setup.check_honest(replica)?;
+        let r = self.replica(replica);
+        self.check_stamped(u64::from(r.length))?;
+        r.admits(Step::Work)?;
+        self.check_said(&Record::find_by(self.setup.leader(r.view), r.view, r.length))
+    }
+
+    /// Replica `replica` says DROP for the slot at the end of its line, for which its leader said FIND.
+    pub fn drop(&mut self, replica: u64) -> Result<(), Refusal>
+        ensures does { Does R.held R.free self.old (λ u x. drop u x replica) result self.new }
+        ensures service { self.new.service.now ≡ self.old.service.now }
+    {
+        self.may_drop(replica)?;
+        let r = self.replica(replica);
+        self.register
+            .enter(&Record::drop_by(replica as u8, r.view, r.length))
+    }
+}

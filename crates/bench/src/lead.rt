@@ -1,0 +1,55 @@
+//! The call lead.
+ghost use Rattle.std.specs.Prelude.{◌≡◌, Ok, Err, MatchResult};
+ghost use Rattle.merge.specs.Merges.{merge};
+ghost use Rattle.bench.specs.Setups.{setup_of};
+ghost use Rattle.bench.specs.States.{state_of, Does};
+ghost use Rattle.protocol.specs.Lead.{lead};
+
+use crate::grounds::check_line;
+use crate::open::Bench;
+use merge::check_layout;
+use record::Record;
+use refusal::Refusal;
+use register::Register;
+use replica::Step;
+use service::Service;
+
+impl<'a, R: Register, S: Service> Bench<'a, R, S> {
+    // The line that the picks merge to, or the grounds against the call, but for the register's own.
+    fn may_lead(
+        &self,
+        replica: u64,
+        picks: &[Record],
+        length: u64,
+        word: u64,
+    ) -> Result<(u8, u64), Refusal>
+        ensures { MatchResult result (λ line. ((lead (setup_of self.now.setup) (state_of R.held R.free self.now) replica picks.now length word).grounds ≡ Ok tt) × (line ≡ merge (length, word) picks.now)) (λ e. (lead (setup_of self.now.setup) (state_of R.held R.free self.now) replica picks.now length word).grounds ≡ Err e) }
+    {
+        check_layout(picks)?;
+        self.setup.check_honest(replica)?;
+        check_line(length, word)?;
+        let r = self.replica(replica);
+        r.admits(Step::Start)?;
+        self.check_leader(replica, r.target)?;
+        self.view_change(r.target)
+            .merging(&*self.register, picks, (length as u8, word))
+    }
+
+    /// Replica `replica`, the leader of its target, says VIEW-START for it with the line that the picks
+    /// merge to over a base.
+    pub fn lead(
+        &mut self,
+        replica: u64,
+        picks: &[Record],
+        length: u64,
+        word: u64,
+    ) -> Result<(), Refusal>
+        ensures does { Does R.held R.free self.old (λ u x. lead u x replica picks.now length word) result self.new }
+        ensures service { self.new.service.now ≡ self.old.service.now }
+    {
+        let line = self.may_lead(replica, picks, length, word)?;
+        let r = self.replica(replica);
+        self.register
+            .enter(&Record::view_start_by(replica as u8, r.target, line))
+    }
+}

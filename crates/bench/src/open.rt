@@ -1,0 +1,72 @@
+//! A bench, and opening one.
+ghost use Rattle.std.specs.Prelude.{◌≡◌};
+ghost use Rattle.protocol.specs.State.{opened};
+ghost use Rattle.bench.specs.Setups.{setup_of};
+ghost use Rattle.bench.specs.States.{state_of, Opened};
+
+use crate::setup::Setup;
+use crate::status::{REPLICAS, Status};
+use arrayvec::ArrayVec;
+use register::Register;
+use replica::Replica;
+use service::Service;
+
+/// A bench: the replicas, and what is stamped, over one register and one service, which are lent to
+/// it for as long as it is there.
+#[derive(Drop)]
+pub struct Bench<'a, R, S> {
+    pub(crate) setup: Setup,
+    pub(crate) status: Status,
+    pub(crate) register: &'a mut R,
+    pub(crate) service: &'a mut S,
+}
+
+impl<'a, R: Register, S: Service> Bench<'a, R, S> {
+    /// Opens a bench with a setup that was checked over the register. Nothing is stamped, and every
+    /// replica is still.
+    pub fn open(setup: Setup, register: &'a mut R, service: &'a mut S) -> Bench<'a, R, S>
+        ensures opened { Opened R.held R.free setup register.old result }
+        ensures service { result.service.now ≡ service.old }
+        ensures lent_register { result.register.ghost_name ≡ register.entry.ghost_name }
+        ensures lent_service { result.service.ghost_name ≡ service.entry.ghost_name }
+    {
+        Bench {
+            setup,
+            status: Status {
+                operations: ArrayVec::new(),
+                replicas: [Replica::new(); REPLICAS],
+            },
+            register,
+            service,
+        }
+    }
+
+    /// Who the replicas are.
+    pub fn setup(&self) -> Setup
+        ensures { result ≡ self.now.setup }
+    {
+        self.setup
+    }
+
+    /// What it keeps besides its register and its service.
+    pub fn status(&self) -> &Status
+        ensures { result.now ≡ self.now.status }
+    {
+        &self.status
+    }
+
+    /// The register.
+    pub fn register(&self) -> &R
+        ensures { result.now ≡ self.now.register.now }
+    {
+        self.register
+    }
+
+    /// Ends the bench, and hands out what it kept.
+    pub fn close(self) -> Status
+        ensures { result ≡ self.entry.status }
+    {
+        let Bench { status, .. } = self;
+        status
+    }
+}

@@ -1,0 +1,38 @@
+//! What a bench keeps besides its register and its service.
+ghost use Rattle.std.specs.Prelude.{◌≡◌, ◌≤◌, length};
+
+use arrayvec::ArrayVec;
+use replica::Replica;
+
+/// The number of slots.
+pub const SLOTS: usize = 64;
+
+// The greatest number of replicas.
+pub(crate) const REPLICAS: usize = 16;
+
+/// What a bench keeps besides its register and its service: the operations stamped, and every
+/// replica. There is room for 16 replicas; those that the bench has not got stay as they were at the
+/// opening.
+#[derive(Drop)]
+pub struct Status {
+    pub(crate) operations: ArrayVec<u64, SLOTS>,
+    // A rule of the project: replicas lie as an array of plain structs, one of which is lent to be changed.
+    pub(crate) replicas: [Replica; REPLICAS],
+}
+
+impl Status {
+    /// The operations stamped, that of slot 0 first.
+    pub fn operations(&self) -> &[u64]
+        ensures operations { result.now ≡ self.now.operations.items }
+        ensures few { length result.now ≤ 64 }
+    {
+        self.operations.as_slice()
+    }
+
+    /// The replicas by their numbers.
+    pub fn replicas(&self) -> &[Replica]
+        ensures { result.now ≡ self.now.replicas }
+    {
+        &self.replicas
+    }
+}
