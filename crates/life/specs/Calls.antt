@@ -1,0 +1,60 @@
+-- Calls, turns and outcomes of code, as the rules have them.
+--   call_of c              — the call c, as the rules have it
+--   calls_of ts            — the calls of the turns ts, in order
+--   told o                 — the outcome o, without its witnesses
+--   told_if o              — the same where there is an outcome
+--   told_in t              — the outcome that stands in the turn t, if one does
+--   granted_or_refused a   — a grant or a refusal as an outcome
+--   certified a w          — the outcome of a certificate call that answered a and left the bytes w
+use Rattle.std.specs.Prelude.{ℕ, Bool, true, false, List, map, Some, None, Ok, Err, Option, Result}
+use Rattle.refusal.specs.Grounds.{Answer}
+use Rattle.refusal.specs.declared.Refusal.{Refusal}
+use Rattle.protocol.specs.Call as rules
+use Rattle.life.specs.declared.call.Call.{Call}
+use Rattle.life.specs.declared.call.Call.TheVariants as call
+use Rattle.life.specs.declared.call.Outcome.{Outcome}
+use Rattle.life.specs.declared.call.Outcome.TheVariants.{Granted, Yes, No, Refused}
+use Rattle.life.specs.declared.call.Turn.{Turn}
+
+abbrev pub call_of : Call → rules.Call
+call_of (call.Stamp op) = rules.Stamp op
+call_of (call.Deliver i s) = rules.Deliver i s
+call_of (call.Find i) = rules.Find i
+call_of (call.Drop i) = rules.Drop i
+call_of (call.Decide i s d) = rules.Decide i s d
+call_of (call.Prepare i s d) = rules.Prepare i s d
+call_of (call.Commit i s d) = rules.Commit i s d
+call_of (call.Settle i s d) = rules.Settle i s d
+call_of (call.Reply i s) = rules.Reply i s
+call_of (call.Leave i t) = rules.Leave i t
+call_of (call.Forge r) = rules.Forge r
+call_of (call.Lead i ps n w) = rules.Lead i ps.now n w
+call_of (call.Start i ps n w) = rules.Start i ps.now n w
+call_of (call.Enter i n w v) = rules.Enter i n w v
+call_of (call.Answer b v s w a) = rules.AskAnswer b v s w a
+call_of (call.NoOp b v s) = rules.AskNoOp b v s
+
+abbrev pub calls_of : List Turn → List rules.Call
+calls_of ts = map (λ t. call_of t.call) ts
+
+abbrev pub told : Outcome → rules.Outcome
+told Granted = rules.Granted
+told (Yes w) = rules.Yes
+told No = rules.No
+told (Refused e) = rules.Refused e
+
+abbrev pub told_if : Option Outcome → Option rules.Outcome
+told_if (Some o) = Some (told o)
+told_if None = None
+
+abbrev pub told_in : Turn → Option rules.Outcome
+told_in t = told_if t.outcome
+
+abbrev pub granted_or_refused : Answer → Outcome
+granted_or_refused (Ok _) = Granted
+granted_or_refused (Err e) = Refused e
+
+abbrev pub certified : Result Bool Refusal → List ℕ → Outcome
+certified (Ok true) w = Yes w
+certified (Ok false) w = No
+certified (Err e) w = Refused e

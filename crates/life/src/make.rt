@@ -1,0 +1,59 @@
+//! Making one call.
+ghost use Rattle.std.specs.Prelude.{◌≡◌};
+ghost use Rattle.bench.specs.Setups.{setup_of};
+ghost use Rattle.bench.specs.States.{service_of, state_of};
+ghost use Rattle.life.specs.Calls.{call_of, certified};
+ghost use Rattle.life.specs.Lives.{Makes, Keeps};
+
+use crate::call::{Call, Outcome};
+use bench::Bench;
+use quorum::SIGNERS;
+use refusal::Refusal;
+use register::Register;
+use service::Service;
+
+// The outcome of a certificate call that answered so and left these bytes in the runner's buffer.
+fn certified(answer: Result<bool, Refusal>, witnesses: [u8; SIGNERS]) -> Outcome
+    ensures { result ≡ certified answer witnesses }
+{
+    match answer {
+        Ok(true) => Outcome::Yes(witnesses),
+        Ok(false) => Outcome::No,
+        Err(refusal) => Outcome::Refused(refusal),
+    }
+}
+
+// Makes a call, with a buffer of the runner's own for witnesses.
+pub(crate) fn make<R: Register, S: Service>(bench: &mut Bench<'_, R, S>, call: &Call<'_>) -> Outcome
+    ensures makes { Makes (setup_of bench.old.setup) (service_of S.fresh S.next S.answer (S.state bench.old.service.now)) (state_of R.held R.free bench.old) (call_of call.now) result (state_of R.held R.free bench.new) }
+    ensures keeps { Keeps (λ s. S.fresh (S.state s)) bench.old bench.new }
+{
+    match *call {
+        Call::Stamp { operation } => bench.stamp(operation).into(),
+        Call::Deliver { replica, slot } => bench.deliver(replica, slot).into(),
+        Call::Find { replica } => bench.find(replica).into(),
+        Call::Drop { replica } => bench.drop(replica).into(),
+        Call::Decide { replica, slot, verdict } => bench.decide(replica, slot, verdict).into(),
+        Call::Prepare { replica, slot, verdict } => bench.prepare(replica, slot, verdict).into(),
+        Call::Commit { replica, slot, verdict } => bench.commit(replica, slot, verdict).into(),
+        Call::Settle { replica, slot, verdict } => bench.settle(replica, slot, verdict).into(),
+        Call::Reply { replica, slot } => bench.reply(replica, slot).into(),
+        Call::Leave { replica, target } => bench.leave(replica, target).into(),
+        Call::Forge { statement } => bench.forge(&statement).into(),
+        Call::Lead { replica, picks, length, word } => bench.lead(replica, picks, length, word).into(),
+        Call::Start { replica, picks, length, word } => bench.start(replica, picks, length, word).into(),
+        Call::Enter { replica, length, word, view } => bench.enter(replica, length, word, view).into(),
+        Call::Answer { room, view, slot, word, value } => {
+            let mut witnesses = [0; SIGNERS];
+            let offered = &mut witnesses[..room.min(16) as usize];
+            let answer = bench.answer(offered, view, slot, word, value);
+            certified(answer, witnesses)
+        }
+        Call::NoOp { room, view, slot } => {
+            let mut witnesses = [0; SIGNERS];
+            let offered = &mut witnesses[..room.min(16) as usize];
+            let answer = bench.no_op(offered, view, slot);
+            certified(answer, witnesses)
+        }
+    }
+}
