@@ -1,5 +1,9 @@
 //! Running a life.
-ghost use Rattle.std.specs.Prelude.{◌≡◌, IfErr};
+ghost use Rattle.std.specs.Prelude.{◌≡◌, IfErr, length};
+ghost use Rattle.bench.specs.Setups.{setup_of};
+ghost use Rattle.bench.specs.States.{service_of, state_of};
+ghost use Rattle.life.specs.Calls.{calls_of};
+ghost use Rattle.life.specs.Lives.{Keeps, Underway, Runs};
 
 use crate::call::Turn;
 use crate::make::make;
@@ -8,7 +12,20 @@ use refusal::Refusal;
 use register::Register;
 use service::Service;
 
-/// Opens a bench and makes every call in its turn.
+// Makes every call in its turn.
+fn make_all<R: Register, S: Service>(bench: &mut Bench<'_, R, S>, turns: &mut [Turn<'_>])
+    ensures made { Underway (setup_of bench.old.setup) (service_of S.fresh S.next S.answer (S.state bench.old.service.now)) (state_of R.held R.free bench.old) (calls_of turns.old) (length turns.new) turns.new (state_of R.held R.free bench.new) }
+    ensures keeps { Keeps (λ s. S.fresh (S.state s)) bench.old bench.new }
+{
+    for turn in turns.iter_mut() {
+        turn.outcome = Some(make(bench, &turn.call));
+    }
+}
+
+/// Opens a bench over the register and the service, and makes every call in its turn. What comes of
+/// it is written into the turns; the bench is ended, and what it kept is handed out.
+///
+/// If the open is refused, no call is made, and register and turns are as they were.
 pub fn run_life<R: Register, S: Service>(
     f: u64,
     foreign: u64,
@@ -16,12 +33,11 @@ pub fn run_life<R: Register, S: Service>(
     service: &mut S,
     turns: &mut [Turn<'_>],
 ) -> Result<Status, Refusal>
+    ensures life { Runs (record { f = f; mask = foreign }) (service_of S.fresh S.next S.answer (S.state service.old)) (R.held register.old) (R.free register.old) turns.old result turns.new (R.held register.new) (R.free register.new) }
     ensures refused { IfErr result (λ _. register.new ≡ register.old) }
 {
     let setup = Setup::check(f, foreign, &*register)?;
     let mut bench = Bench::open(setup, register, service);
-    for turn in turns.iter_mut() {
-        turn.outcome = Some(make(&mut bench, &turn.call));
-    }
+    make_all(&mut bench, turns);
     Ok(bench.close())
 }

@@ -31,7 +31,7 @@ count_distinct n [] d h = count_none n
 count_distinct n (i ∷ is) d h =
     count_one_more n i (among is) h.0 (among_none i is d.0) ∙ ap suc (count_distinct n is d.1 h.1)
 
-same_number : (i j : ℕ) → Decides (eqb i j) (i ≡ j)
+pub same_number : (i j : ℕ) → Decides (eqb i j) (i ≡ j)
 same_number i j = (eqb-true i j, eq-eqb i j)
 
 pub count_among :

@@ -1,0 +1,157 @@
+-- A life that was run to its end.
+use Rattle.std.proofs.Common.{◌≡◌, Result, Bool, ℕ, zero, suc, ◌<◌, ◌≤◌, true, false, ◌≢◌, eqb, List, [], ◌∷◌, length, get_or, replicate, take, Ok, sym, refl, ap, ◌∙◌, subst, arith}
+use Rattle.std.proofs.lemmas.List.{length-map}
+use Rattle.std.proofs.lemmas.Bool.{ne_eqb}
+use Rattle.std.specs.List.{AllByRecursion, IsDistinct}
+use Rattle.std.proofs.lemmas.Map.Made.{AllPairs-from_IsDistinct}
+use Rattle.refusal.specs.declared.Refusal.{Refusal}
+use Rattle.record.specs.Statements.{reply_by, commit_by}
+use Rattle.record.specs.declared.Record.{Record}
+use Rattle.register.specs.Sets.{Set, nothing, Emptiness}
+use Rattle.quorum.specs.Quorums.{said, signed_by, Witnesses}
+use Rattle.replica.specs.Replicas.{still}
+use Rattle.protocol.specs.Setup.{Setup, replicas, quorum_size}
+use Rattle.protocol.specs.Service.{Service}
+use Rattle.protocol.specs.State.{State, opened}
+use Rattle.protocol.specs.Open.{open_grounds}
+use Rattle.protocol.specs.Call as rules
+use Rattle.protocol.specs.Life.{Life, run, state_at}
+use Rattle.protocol.proofs.Entries.{nth_below, entered_of_held}
+use Rattle.protocol.proofs.Signing.{same_number}
+use Rattle.protocol.proofs.Ledger.{one_ledger_always}
+use Rattle.bench.specs.Setups.{setup_of, Checks, Opens}
+use Rattle.bench.specs.States.{service_of, state_of, Opened}
+use Rattle.bench.specs.declared.open.Bench.{Bench}
+use Rattle.bench.specs.declared.setup.Setup as code
+use Rattle.life.specs.Calls.{call_of, calls_of}
+use Rattle.life.specs.Lives.{Backed, Backs, Made, Underway, WitnessesOf, Witnessed, Came, Lived, life_of}
+use Rattle.life.specs.declared.call.Turn.{Turn}
+
+-- the register over which a life began is the empty one
+empty_set : (s : Set) → Emptiness s true → s ≡ nothing
+empty_set s E k x = E.none refl x k
+
+-- ---- the first numbers of a list, by their places
+
+all_first :
+    (P : ℕ → Type 0) (q : ℕ) (w : List ℕ) → q ≤ length w → ((j : ℕ) → j < q → P (get_or w j 0))
+    → AllByRecursion P (take q w)
+all_first P zero w h f = tt
+all_first P (suc q) [] h f = absurd (omega arith)
+all_first P (suc q) (x ∷ w) h f = (f 0 (omega arith), all_first P q w (omega arith) (λ j l. f (suc j) (omega arith)))
+
+distinct_first :
+    (q : ℕ) (w : List ℕ) → q ≤ length w → ((j k : ℕ) → j < k → k < q → get_or w j 0 ≢ get_or w k 0)
+    → IsDistinct eqb (take q w)
+unfolding IsDistinct
+distinct_first zero w h f = tt
+distinct_first (suc q) [] h f = absurd (omega arith)
+distinct_first (suc q) (x ∷ w) h f =
+    (all_first (λ j. eqb x j ≡ false) q w (omega arith)
+    (λ j l. ne_eqb x (get_or w j 0) (f 0 (suc j) (omega arith) (omega arith))),
+    distinct_first q w (omega arith) (λ j k l m. f (suc j) (suc k) (omega arith) (omega arith)))
+
+length_first : (q : ℕ) (w : List ℕ) → q ≤ length w → length (take q w) ≡ q
+length_first zero w h = refl
+length_first (suc q) [] h = absurd (omega arith)
+length_first (suc q) (x ∷ w) h = ap suc (length_first q w (omega arith))
+
+-- ---- witnesses, in terms of the calls
+
+module _ (y : Life) (k : ℕ) where
+  witnesses_of :
+      (r : Record) (w : List ℕ) → Backed (replicas y.bench) (quorum_size y.bench) (said (state_at y k).held r) w
+      → WitnessesOf y k r w
+  witnesses_of r w B =
+      let q = quorum_size y.bench in
+      let W = B.1 in
+      record {
+        signers =
+            record {
+              who = take q w;
+              enough = length_first q w B.0;
+              different = AllPairs-from_IsDistinct same_number (take q w) (distinct_first q w B.0 W.different);
+              each =
+                  all_first _ q w B.0
+                  (λ j l. (W.below j l, entered_of_held y k (signed_by r (get_or w j 0)) (W.pass j l)));
+            };
+        first = refl;
+        others = W.others;
+      }
+
+  witnessed : (c : rules.Call) (w : List ℕ) → Backs y.bench (state_at y k) c w → Witnessed y k c w
+  witnessed (rules.AskAnswer b v s z a) w W = witnesses_of (reply_by 0 v s z a) w W
+  witnessed (rules.AskNoOp b v s) w W = witnesses_of (commit_by 0 v s 1) w W
+  witnessed (rules.Stamp op) w W = absurd W
+  witnessed (rules.Deliver i s) w W = absurd W
+  witnessed (rules.Find i) w W = absurd W
+  witnessed (rules.Drop i) w W = absurd W
+  witnessed (rules.Decide i s d) w W = absurd W
+  witnessed (rules.Prepare i s d) w W = absurd W
+  witnessed (rules.Commit i s d) w W = absurd W
+  witnessed (rules.Settle i s d) w W = absurd W
+  witnessed (rules.Reply i s) w W = absurd W
+  witnessed (rules.Leave i t) w W = absurd W
+  witnessed (rules.Forge r) w W = absurd W
+  witnessed (rules.Lead i ps n z) w W = absurd W
+  witnessed (rules.Start i ps n z) w W = absurd W
+  witnessed (rules.Enter i n z v) w W = absurd W
+
+module _ (u : Setup) (V : Service) (n : ℕ) (o : open_grounds u true ≡ Ok tt) (before after : List Turn) (z : State) where
+  lived_from_opened :
+      Underway u V (opened n) (calls_of before) (length after) after z → Lived (life_of u V n before o) before after z
+  lived_from_opened U =
+      let y = life_of u V n before o in
+      record {
+        calls = U.calls;
+        came = λ k t e.
+            let M = U.made k t (nth_below k after t e) e in
+            record { outcome = M.outcome; witnesses = λ w f. witnessed y k (call_of t.call) w (M.witnesses w f) };
+        state =
+            U.state
+            ∙ ap (λ j. run u V (opened n) (take j (calls_of before)))
+            (sym (length-map after (λ (t : Turn). call_of t.call)) ∙ ap length U.calls);
+        ledger = one_ledger_always y;
+      }
+
+  pub lived :
+      (s : Set) → Emptiness s true
+      → Underway u V (record { stamped = []; held = s; free = n; replicas = replicate 16 still }) (calls_of before)
+      (length after) after z
+      → Lived (life_of u V n before o) before after z
+  lived s E U =
+      lived_from_opened
+      (subst
+      (λ h. Underway u V (record { stamped = []; held = h; free = n; replicas = replicate 16 still }) (calls_of before)
+      (length after) after z)
+      (empty_set s E) U)
+
+open_over_empty : (u : Setup) (b : Bool) → open_grounds u b ≡ Ok tt → b ≡ true
+open_over_empty u true e = refl
+open_over_empty u false e = ?
+
+-- what is known once every call was made on a bench that was checked and opened
+module _
+    {R S A : Type 0} (held : R → Set) (free : R → ℕ) (state : S → A) (fresh : A → A) (next : A → ℕ → A)
+    (answer : A → ℕ → ℕ)
+  where
+    pub lived_on_bench :
+        (u : Setup) (s : code.Setup) (result : Result code.Setup Refusal) (r : R) (t : S) (b c : Bench R S)
+        (before after : List Turn)
+        → Opens u (held r) result → result ≡ Ok s → Opened held free s r b → b.service.now ≡ t
+        → Underway (setup_of b.setup) (service_of fresh next answer (state b.service.now)) (state_of held free b)
+        (calls_of before) (length after) after (state_of held free c)
+        → Emptiness (held r) true
+        × ((o : open_grounds u true ≡ Ok tt)
+        × Lived (life_of u (service_of fresh next answer (state t)) (free r) before o) before after
+        (state_of held free c))
+    lived_on_bench u s result r t b c before after C e O f U =
+        let k = subst (λ q. Checks u C.empty q) e C.checks in
+        let empty = open_over_empty u C.empty k.1 in
+        let E = subst (Emptiness (held r)) empty C.tells in
+        let o = subst (λ q. open_grounds u q ≡ Ok tt) empty k.1 in
+        let V = service_of fresh next answer in
+        let U1 = subst (λ x. Underway (setup_of b.setup) (V (state b.service.now)) x (calls_of before) (length after) after (state_of held free c)) O.state U in
+        let U2 = subst (λ q. Underway (setup_of b.setup) (V (state q)) (record { stamped = []; held = held r; free = free r; replicas = replicate 16 still }) (calls_of before) (length after) after (state_of held free c)) f U1 in
+        let U3 = subst (λ w. Underway w (V (state t)) (record { stamped = []; held = held r; free = free r; replicas = replicate 16 still }) (calls_of before) (length after) after (state_of held free c)) (ap setup_of O.setup ∙ k.0) U2 in
+        (E, o, lived u (V (state t)) (free r) o before after (state_of held free c) (held r) E U3)
