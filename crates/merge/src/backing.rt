@@ -1,35 +1,26 @@
 //! What the register must hold for the picks.
 ghost use Rattle.std.specs.Prelude.{◌≡◌};
-ghost use Rattle.record.specs.Statements.{prepare_by};
 ghost use Rattle.merge.specs.Checks.{prepared, backed, backing_grounds};
 
 use crate::picks::first_fault;
 use quorum::Membership;
-use record::{Kind, Record};
+use record::Record;
 use refusal::{Ground, Refusal};
 use register::Register;
 use replica::{Verdict, bit};
 
 // Register and members stay two arguments: a register is lent, members are copied.
 
-// PREPARE of no-op for a slot in a view, by replica 0.
-fn prepare_no_op(view: u8, slot: u8) -> Record
-    ensures { result ≡ prepare_by 0 view slot 1 }
-{
-    Record {
-        kind: Kind::Prepare.into(),
-        view,
-        slot,
-        verdict: Verdict::NoOp.into(),
-        ..Record::default()
-    }
-}
-
 // Whether a quorum said PREPARE of no-op in the view for each slot whose bit the word has.
+// `reached` asks for each signer, whichever the statement has.
 fn prepared<R: Register>(register: &R, members: Membership, view: u8, word: u64) -> bool
     ensures { result ≡ prepared (R.held register.now) members.replicas members.quorum view word }
 {
-    (0..64).all(|slot| !bit(word, slot) || members.reached(register, &prepare_no_op(view, slot)))
+    (0..64).all(|slot| !bit(word, slot)
+        || members.reached(
+            register,
+            &Record::prepare_by(0, view, slot, Verdict::NoOp.into()),
+        ))
 }
 
 // Whether a pick is in the register and, if its last is `top`, its word is prepared in that view.
