@@ -2,10 +2,10 @@
 //! be one; how statements are stored is each register's own.
 #![tactic(auto)]
 
-ghost use Rattle.std.specs.Prelude.{◌≡◌, ℕ, Bool, true, not, is_ok};
+ghost use Rattle.std.specs.Prelude.{◌≡◌, ℕ, Bool, true, false, not, is_ok};
 ghost use Rattle.record.specs.Layout.{keeps_layout};
 ghost use Rattle.record.specs.declared.Record.{Record};
-ghost use Rattle.register.specs.Sets.{Emptiness, Entered};
+ghost use Rattle.register.specs.Sets.{Emptiness, adds, Entered};
 ghost use Rattle.register.specs.Insertions.{Granted, Inserted};
 
 use record::Record;
@@ -28,24 +28,28 @@ pub trait Register {
     fn is_empty(&self) -> bool
         ensures { Emptiness (held self.now) result };
 
-    /// Enters `r`. A record that breaks the layout is refused. A member is granted and changes
-    /// nothing. Another statement is added and uses one free place, or, if there is none, it is
-    /// refused. A refusal changes nothing.
+    /// Enters `r`. A record that breaks the layout is refused. A member is granted. Another
+    /// statement is added and uses one free place, or, if there is none, it is refused. Where
+    /// nothing is added, the whole register is left as it was, with the memory lent to it.
     fn enter(&mut self, r: &Record) -> Result<(), Refusal>
-        ensures { Entered (held self.old) (free self.old) r.now result (held self.new) (free self.new) };
+        ensures entered { Entered (held self.old) (free self.old) r.now result (held self.new) (free self.new) }
+        ensures unchanged { adds (held self.old) (free self.old) r.now ≡ false → self.new ≡ self.old };
 }
 
 // Enters `r`. What a grant comes to is told by members and places.
 fn enter<R: Register>(register: &mut R, r: &Record) -> Result<(), Refusal>
     ensures entered { Entered (R.held register.old) (R.free register.old) r.now result (R.held register.new) (R.free register.new) }
     ensures granted { is_ok result ≡ true → Granted (R.held register.old) (R.free register.old) r.now (not (R.held register.old r.now)) (R.held register.new) (R.free register.new) }
+    ensures unchanged { adds (R.held register.old) (R.free register.old) r.now ≡ false → register.new ≡ register.old }
 {
     register.enter(r)
 }
 
-/// Enters `r`, and answers whether it was new to the register.
+/// Enters `r`, and answers whether it was new to the register. Where it is refused or was a member,
+/// the whole register is left as it was.
 pub fn insert<R: Register>(register: &mut R, r: &Record) -> Result<bool, Refusal>
-    ensures { Inserted (R.held register.old) (R.free register.old) r.now result (R.held register.new) (R.free register.new) }
+    ensures inserted { Inserted (R.held register.old) (R.free register.old) r.now result (R.held register.new) (R.free register.new) }
+    ensures unchanged { adds (R.held register.old) (R.free register.old) r.now ≡ false → register.new ≡ register.old }
 {
     let known = register.ask(r);
     enter(register, r)?;

@@ -29,6 +29,12 @@ module _ (s t : Set) (m k : ℕ) (r : Record) (s' : Set) (m' : ℕ) (a : Result 
             entered_keeping (together s t) (m + k) r b (together s' t') (m' + k') (grind (arith, nat_tests)) (grind (arith, nat_tests)) held (omega (arith, v.1, w.1))
       ]
 
+  -- the first refuses it, and nothing is added to the two
+  pub added_to_neither : is_ok a ≡ false → adds (together s t) (m + k) r ≡ false → (adds s m r ≡ false) × (adds t k r ≡ false)
+  added_to_neither refused none =
+      let answers = e.answer in
+      (grind (arith, nat_tests), grind (arith, nat_tests))
+
 abbrev sheet_of : List Record → Sheet
 sheet_of rs = record { items = rs }
 

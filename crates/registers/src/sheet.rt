@@ -1,6 +1,6 @@
-ghost use Rattle.std.specs.Prelude.{◌≡◌, ◌+◌, ◌-◌, ◌∷◌, [], ◌++◌};
+ghost use Rattle.std.specs.Prelude.{◌≡◌, ◌+◌, ◌-◌, ◌∷◌, [], ◌++◌, false};
 ghost use Rattle.arrayvec.specs.ArrayVec.{array_vec_len};
-ghost use Rattle.register.specs.Sets.{Entered, nothing};
+ghost use Rattle.register.specs.Sets.{adds, Entered, nothing};
 ghost use Rattle.registers.specs.Sheets.{sheet_held, sheet_free, together, BelowFirst};
 
 use crate::store::{Store, enter, holds, holds_nothing};
@@ -69,6 +69,7 @@ impl<R: Register> Register for SpareSheet<R> {
     /// A new statement is entered below. The sheet takes it only if the register below refuses it.
     fn enter(&mut self, r: &Record) -> Result<(), Refusal>
         ensures entered { Entered (together (R.held self.old.below) (sheet_held self.old.sheet)) (R.free self.old.below + sheet_free self.old.sheet) r.now result (together (R.held self.new.below) (sheet_held self.new.sheet)) (R.free self.new.below + sheet_free self.new.sheet) }
+        ensures unchanged { adds (together (R.held self.old.below) (sheet_held self.old.sheet)) (R.free self.old.below + sheet_free self.old.sheet) r.now ≡ false → self.new ≡ self.old }
         ensures order { BelowFirst (R.held self.old.below) (R.free self.old.below) self.old.sheet r.now (R.held self.new.below) (R.free self.new.below) self.new.sheet }
     {
         if holds(self.sheet.records(), r) {

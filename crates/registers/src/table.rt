@@ -1,4 +1,4 @@
-ghost use Rattle.std.specs.Prelude.{◌≡◌, ◌≤◌, length};
+ghost use Rattle.std.specs.Prelude.{◌≡◌, ◌≤◌, false, length};
 
 use crate::store::{Store, enter, holds, holds_nothing};
 use record::Record;
@@ -55,7 +55,7 @@ impl<'a> Store for Table<'a> {
 }
 
 impl<'a> Register for Table<'a> {
-    ghost use Rattle.register.specs.Sets.{Entered};
+    ghost use Rattle.register.specs.Sets.{adds, Entered};
     ghost use Rattle.registers.specs.Places.{entered};
     ghost use Rattle.registers.specs.Tables.{table_held, table_free};
 
@@ -74,6 +74,7 @@ impl<'a> Register for Table<'a> {
     /// A new statement goes to the lowest free place. Nothing else of the caller's memory changes.
     fn enter(&mut self, r: &Record) -> Result<(), Refusal>
         ensures entered { Entered (table_held self.old) (table_free self.old) r.now result (table_held self.new) (table_free self.new) }
+        ensures unchanged { adds (table_held self.old) (table_free self.old) r.now ≡ false → self.new ≡ self.old }
         ensures places { self.new.places.now ≡ entered self.old.used self.old.places.now r.now }
         ensures lent { self.new.places.ghost_name ≡ self.old.places.ghost_name }
     {

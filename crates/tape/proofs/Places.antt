@@ -16,7 +16,7 @@ use Rattle.record.specs.declared.Record.{Record}
 use Rattle.record.proofs.Chunks.{chunks_are}
 use Rattle.record.proofs.Packs.{length_packed, packs_alone}
 use Rattle.record.proofs.Same.{same_decides}
-use Rattle.register.specs.Sets.{Entered}
+use Rattle.register.specs.Sets.{adds, Entered}
 use Rattle.register.specs.Stored.{stored}
 use Rattle.register.proofs.Entering.{adds_new, entered_new}
 use Rattle.register.proofs.Stored.{Holds, HoldsNone, stored_push}
@@ -76,6 +76,9 @@ module _ (c : List ℕ) (whole : length c ≡ 20) where
 
 -- r, which is no member, is written to the place n
 module _ (n : ℕ) (b : List ℕ) (r : Record) (room-left : n < places b) (kept : keeps_layout r ≡ true) (absent : on_tape n b r ≡ false) where
+  pub is_added : adds (on_tape n b) (room_on n b) r ≡ true
+  is_added = adds_new (on_tape n b) (room_on n b) r kept absent (omega arith)
+
   same_room : length (replaced n b (packed r)) ≡ length b
   same_room = length_replaced (packed r) (length_packed r) n b room-left
 
@@ -91,4 +94,4 @@ module _ (n : ℕ) (b : List ℕ) (r : Record) (room-left : n < places b) (kept 
         entered_new (on_tape n b) (room_on n b) r kept absent (omega arith) _ _ held (omega (arith, same_room, ap length put))
 
     pub put_is_entered : b' ≡ entered_on n b r
-    put_is_entered = put ∙ sym (cond-true _ (replaced n b (packed r)) b (adds_new (on_tape n b) (room_on n b) r kept absent (omega arith)))
+    put_is_entered = put ∙ sym (cond-true _ (replaced n b (packed r)) b is_added)

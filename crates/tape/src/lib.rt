@@ -1,9 +1,9 @@
 //! A register over bytes that the caller lends.
 #![tactic(auto)]
 
-ghost use Rattle.std.specs.Prelude.{◌≡◌, ◌≤◌};
+ghost use Rattle.std.specs.Prelude.{◌≡◌, ◌≤◌, false};
 ghost use Rattle.record.specs.Tapes.{places};
-ghost use Rattle.register.specs.Sets.{Entered, nothing};
+ghost use Rattle.register.specs.Sets.{adds, Entered, nothing};
 
 mod parts;
 
@@ -68,6 +68,7 @@ impl<'a> Register for Tape<'a> {
     /// A new statement goes to the lowest free place. Nothing else of the caller's memory changes.
     fn enter(&mut self, r: &Record) -> Result<(), Refusal>
         ensures entered { Entered (tape_held self.old) (tape_free self.old) r.now result (tape_held self.new) (tape_free self.new) }
+        ensures unchanged { adds (tape_held self.old) (tape_free self.old) r.now ≡ false → self.new ≡ self.old }
         ensures bytes { self.new.bytes.now ≡ entered_on self.old.used self.old.bytes.now r.now }
         ensures lent { self.new.bytes.ghost_name ≡ self.old.bytes.ghost_name }
     {

@@ -3,7 +3,7 @@ use Rattle.record.specs.Layout.{keeps_layout}
 use Rattle.record.specs.Packed.{packed}
 use Rattle.record.specs.Tapes.{places}
 use Rattle.tape.specs.Tapes.{tape_held}
-use Rattle.tape.proofs.Places.{put_replaces, put_enters, put_is_entered}
+use Rattle.tape.proofs.Places.{put_replaces, is_added, put_enters, put_is_entered}
 use Rattle.tape.proofs.TapeRegister.enter.Goals as goal
 
 pub returns : goal.returns
@@ -17,6 +17,7 @@ returns c =
     let written = put_replaces t.used t.bytes.now c.copy_from_slice.new.self (packed r) bytes in
     record {
       entered = put_enters t.used t.bytes.now r room kept absent _ written;
+      unchanged = λ none. cc (is_added t.used t.bytes.now r room kept absent);
       bytes = put_is_entered t.used t.bytes.now r room kept absent _ written;
       lent = refl;
     }
