@@ -3,7 +3,7 @@
 --   state_of held free b          — the state of the bench b
 --   service_of fresh next answer s — a service in the state s, by what it answers to an operation after those that it was fed since it was cleared
 --   Does held free b a r c        — a call that is the action a, given who the replicas are and the state of the bench, answered r on the bench b and left the bench c
-use Rattle.std.specs.Prelude.{◌≡◌, ℕ, [], replicate}
+use Rattle.std.specs.Prelude.{◌≡◌, ℕ, false, [], replicate, is_ok}
 use Rattle.refusal.specs.Grounds.{Answer}
 use Rattle.service.specs.Operations.{after}
 use Rattle.register.specs.Sets.{Set}
@@ -31,8 +31,8 @@ pub record Does
     {R S : Type 0} (held : R → Set) (free : R → ℕ) (b : Bench R S) (a : Setup → State → Action) (r : Answer) (c : Bench R S) : Type 0 where
   pub answer : r ≡ answer_to (state_of held free b) (a (setup_of b.setup) (state_of held free b))
   pub after : state_of held free c ≡ state_after (state_of held free b) (a (setup_of b.setup) (state_of held free b))
-  -- TODO refused the register as it was, with the memory that is lent to it
-  -- pub refused : is_ok r ≡ false → c.register.now ≡ b.register.now
+  -- refused, it leaves the register as it was, with the memory that is lent to it
+  pub refused : is_ok r ≡ false → c.register.now ≡ b.register.now
   -- who the replicas are stays
   pub setup : c.setup ≡ b.setup
   -- the bench keeps the register and the service that are lent to it

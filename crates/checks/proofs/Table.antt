@@ -29,4 +29,6 @@ worked =
       granted = refl;
       drawn = refl;
       overdrawn = refl;
+      merged = refl;
+      merged_no_op = refl;
     }

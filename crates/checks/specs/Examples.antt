@@ -8,8 +8,10 @@
 --   flow_after a b s    — what a fresh rating service answers to READ at the stage s after the operations a and b
 --   grant m, draw m     — the bits of GRANT and DRAW of the amount m, on account 0
 --   balance_after os o  — what a fresh allotment service answers to the operation o after the operations os
+--   picks a b c         — the VIEW-CHANGE statements of the signers 0, 1 and 2, target 1, last 0, with the reaches and words a, b and c
 use Rattle.std.specs.Prelude.{ℕ, List, [], ◌∷◌}
 use Rattle.record.specs.Bytes.{of_width, joined}
+use Rattle.record.specs.Statements.{view_change_by}
 use Rattle.record.specs.declared.Record.{Record}
 use Rattle.service.specs.Operations.{after}
 use Rattle.rating.specs.Rating.{rating_next, rating_answer}
@@ -45,3 +47,7 @@ draw amount = joined 0 (of_width 2 2 ∷ of_width 4 0 ∷ of_width 32 amount ∷
 
 abbrev pub balance_after : List ℕ → ℕ → ℕ
 balance_after ops op = allotment_answer (after allotment_next no_balances ops) op
+
+abbrev pub picks : (a b c : ℕ × ℕ) → List Record
+picks a b c =
+    view_change_by 0 1 0 a.0 a.1 ∷ view_change_by 1 1 0 b.0 b.1 ∷ view_change_by 2 1 0 c.0 c.1 ∷ []

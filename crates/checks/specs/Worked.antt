@@ -1,10 +1,12 @@
 -- The worked checks, in one table.
---   WorkedChecks  — every example comes to the figures stated here
---   worked_run    — what the examples of the services come to when they are run
+--   WorkedChecks    — every example comes to the figures stated here
+--   worked_figures  — what the examples of the services come to when they are run
+--   worked_run      — those figures, and the lines that the examples of merges come to
 use Rattle.std.specs.Prelude.{◌≡◌, ℕ, ◌^◌, List, [], ◌∷◌, ◌++◌, replicate, Ok}
 use Rattle.record.specs.Packed.{packing, Packs}
 use Rattle.record.specs.declared.Record.{Record}
-use Rattle.checks.specs.Examples.{a_reply, a_view_change, low_curve, high_curve, flow_after, grant, draw, balance_after}
+use Rattle.merge.specs.Merges.{merge}
+use Rattle.checks.specs.Examples.{a_reply, a_view_change, low_curve, high_curve, flow_after, grant, draw, balance_after, picks}
 
 pub record WorkedChecks : Type 0 where
   -- the bytes of a REPLY
@@ -26,10 +28,16 @@ pub record WorkedChecks : Type 0 where
   pub granted : balance_after [] (grant 100) ≡ 100
   pub drawn : balance_after (grant 100 ∷ []) (draw 100) ≡ 0
   pub overdrawn : balance_after (grant 100 ∷ draw 100 ∷ []) (draw 1) ≡ 2 ^ 63
+  -- three picks over the base 0 and 0, without a no-op and with one in slot 1
+  pub merged : merge (0, 0) (picks (0, 0) (0, 0) (1, 0)) ≡ (1, 0)
+  pub merged_no_op : merge (0, 0) (picks (2, 2) (1, 0) (0, 0)) ≡ (2, 2)
 
-abbrev pub worked_run : List (List ℕ)
-worked_run =
+abbrev worked_figures : List (List ℕ)
+worked_figures =
     (6200 ∷ 6205 ∷ 2 ^ 63 ∷ [])
     ∷ (6000 ∷ 6205 ∷ 2 ^ 63 ∷ [])
     ∷ (100 ∷ 0 ∷ 2 ^ 63 ∷ [])
     ∷ []
+
+abbrev pub worked_run : List (List ℕ) × List (ℕ × ℕ)
+worked_run = (worked_figures, (1, 0) ∷ (2, 2) ∷ [])

@@ -1,13 +1,16 @@
 //! The worked checks: examples with stated figures, proved of the definitions that the contracts
-//! of records and services cite, and run.
+//! of records, services and merges cite, and run.
 #![tactic(auto)]
 
 ghost use Rattle.std.specs.Prelude.{◌≡◌, [], ◌∷◌};
-ghost use Rattle.checks.specs.Examples.{flow_after};
+ghost use Rattle.merge.specs.Merges.{merge};
+ghost use Rattle.checks.specs.Examples.{flow_after, picks};
 ghost use Rattle.checks.specs.Worked.{WorkedChecks, worked_run};
 
 use allotment::Allotment;
+use merge::merge;
 use rating::Rating;
+use record::Record;
 use service::Service;
 
 // The bits of operations by their layout: so the examples do not lean on the conversions to bits.
@@ -41,9 +44,22 @@ fn flows(first: u64, second: u64) -> [u64; 3]
     ]
 }
 
+// The line that three picks for view 1 merge to over the base 0 and 0: those of the replicas 0, 1
+// and 2, with these reaches and words.
+fn merged(a: (u8, u64), b: (u8, u64), c: (u8, u64)) -> (u8, u64)
+    ensures { result ≡ merge (0, 0) (picks a b c) }
+{
+    let picks = [
+        Record::view_change_by(0, 1, 0, a.0, a.1),
+        Record::view_change_by(1, 1, 0, b.0, b.1),
+        Record::view_change_by(2, 1, 0, c.0, c.1),
+    ];
+    merge(&picks, (0, 0))
+}
+
 // The flows with the high curve loaded last, the flows with the low curve loaded last, and the
-// answers to a grant of 100, a draw of 100 and a draw of 1.
-fn run() -> [[u64; 3]; 3]
+// answers to a grant of 100, a draw of 100 and a draw of 1; and the lines of two merges.
+fn run() -> ([[u64; 3]; 3], [(u8, u64); 2])
     ensures { result ≡ worked_run }
 {
     let mut allotment = Allotment::new();
@@ -52,23 +68,31 @@ fn run() -> [[u64; 3]; 3]
         allotment.apply(DRAW_100),
         allotment.apply(DRAW_1),
     ];
-    [
+    let figures = [
         flows(LOAD_LOW, LOAD_HIGH),
         flows(LOAD_HIGH, LOAD_LOW),
         answers,
-    ]
+    ];
+    let lines = [
+        merged((0, 0), (0, 0), (1, 0)),
+        merged((2, 2), (1, 0), (0, 0)),
+    ];
+    (figures, lines)
 }
 
 /// The worked checks hold. Runs the examples of the services: the flows at 2000, 2001 and 5001
 /// millimetres with the high curve loaded last, the same with the low curve loaded last, and the
-/// answers to a grant of 100, a draw of 100 and a draw of 1.
-pub fn worked_checks() -> [[u64; 3]; 3]
+/// answers to a grant of 100, a draw of 100 and a draw of 1. Runs two merges too, and answers their
+/// lines.
+pub fn worked_checks() -> ([[u64; 3]; 3], [(u8, u64); 2])
     ensures table { WorkedChecks }
     ensures run { result ≡ worked_run }
 {
     run()
 }
 
+#[cfg(test)]
+mod open_tests;
 #[cfg(test)]
 mod register_tests;
 #[cfg(test)]

@@ -128,7 +128,9 @@ module _ (u : Setup) (V : Service) (n : ℕ) (o : open_grounds u true ≡ Ok tt)
 
 open_over_empty : (u : Setup) (b : Bool) → open_grounds u b ≡ Ok tt → b ≡ true
 open_over_empty u true e = refl
-open_over_empty u false e = ?
+open_over_empty u false e =
+    let m = unless_granted _ _ _ _ (unless_granted _ _ _ _ (unless_granted _ _ _ _ e).1).1 in
+    m.0
 
 -- what is known once every call was made on a bench that was checked and opened
 module _
