@@ -37,6 +37,7 @@ impl<'a, R: Register, S: Service> Bench<'a, R, S> {
 
     /// Replica `replica`, the leader of its target, says VIEW-START for it with the line that the picks
     /// merge to over a base.
+    #[tactic(auto, using(crate::proofs::Entering::adds_nothing))]
     pub fn lead(
         &mut self,
         replica: u64,

@@ -44,6 +44,7 @@ impl<'a, R: Register, S: Service> Bench<'a, R, S> {
 
     /// Replica `replica` says ENTRY for its target with the line that the picks merge to over a base, for
     /// which the target's leader said VIEW-START.
+    #[tactic(auto, using(crate::proofs::Entering::adds_nothing))]
     pub fn start(
         &mut self,
         replica: u64,
