@@ -3,7 +3,7 @@
 --   Written n q p b c          — a buffer with the bytes b has the bytes c: q different numbers below n that pass the test p, and then the bytes as they were
 --   Finds h n q r b a c        — looking for q replicas below n that said the statement r, by the set h, found them as a says, and a buffer with the bytes b has the bytes c then: they are written where they were found
 --   Certifies u x g r b a c    — a certificate call for the statement r, with the grounds g, on a bench u in the state x, answered a, and the witness buffer with the bytes b has the bytes c then
-use Rattle.std.specs.Prelude.{◌≡◌, ◌≢◌, ℕ, ◌<◌, ◌≤◌, Bool, true, false, cond, List, ◌++◌, take, drop, Ok, Err, Result}
+use Rattle.std.specs.Prelude.{◌≡◌, ◌≢◌, ℕ, ◌<◌, ◌≤◌, Bool, true, false, cond, List, ◌++◌, length, take, drop, Ok, Err, Result}
 use Rattle.refusal.specs.Grounds.{Answer}
 use Rattle.refusal.specs.declared.Refusal.{Refusal}
 use Rattle.record.specs.declared.Record.{Record}
@@ -20,6 +20,8 @@ asked (Err e) = Refused e
 
 pub record Written (n q : ℕ) (p : ℕ → Bool) (b c : List ℕ) : Type 0 where
   pub found : List ℕ
+  -- so the first q of them are there
+  pub enough : q ≤ length found
   pub witnesses : Witnesses n q p found
   pub bytes : c ≡ take q found ++ drop q b
 
