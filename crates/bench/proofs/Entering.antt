@@ -8,12 +8,13 @@ use Rattle.record.specs.Layout.{keeps_layout}
 use Rattle.record.specs.declared.Record.{Record}
 use Rattle.register.specs.Sets.{Set, adds, entering}
 
-nothing :
-    (k m z : Bool) → is_ok (cond k (cond m (Ok tt) (cond z (Err (refused RegisterFull 0)) (Ok tt))) (Err (refused Layout 0))) ≡ false
-    → (k && not m && not z) ≡ false
+abbrev tried : Bool → Bool → Bool → Answer
+tried k m z = cond k (cond m (Ok tt) (cond z (Err (refused RegisterFull 0)) (Ok tt))) (Err (refused Layout 0))
+
+nothing : (k m z : Bool) → is_ok (tried k m z) ≡ false → (k && not m && not z) ≡ false
 nothing true true z h = refl
 nothing true false true h = refl
-nothing true false false h = absurd (both_ways false h refl)
+nothing true false false h = absurd (both_ways true h refl)
 nothing false m z h = refl
 
 pub adds_nothing : (s : Set) (n : ℕ) (r : Record) (a : Answer) → a ≡ entering s n r → is_ok a ≡ false → adds s n r ≡ false

@@ -64,7 +64,9 @@ impl<'a, R: Register, S: Service> Bench<'a, R, S> {
 
     /// Ends the bench, and hands out what it kept.
     pub fn close(self) -> Status
-        ensures { result ≡ self.entry.status }
+        ensures status { result ≡ self.entry.status }
+        ensures register { self.exit.1.1.0.now ≡ self.entry.register.now }
+        ensures service { self.exit.1.1.1.0.now ≡ self.entry.service.now }
     {
         let Bench { status, .. } = self;
         status

@@ -1,7 +1,7 @@
 -- A certificate call that was lent the first bytes of sixteen zeros is made as the rules have it.
 --   zeros     — the bytes of a buffer before a call
 --   Blank ws  — the bytes ws are all 0
-use Rattle.std.proofs.Common.{◌≡◌, ℕ, ◌+◌, ◌-◌, ◌<◌, ◌≤◌, true, false, Ok, Err, Result, Bool, List, ◌++◌, length, get_or, take, drop, replicate, min, nat_le, refl, sym, ap, ◌∙◌, subst, inl, inr, arith}
+use Rattle.std.proofs.Common.{◌≡◌, ℕ, ◌+◌, ◌-◌, ◌<◌, ◌≤◌, true, false, Ok, Err, Result, Bool, List, ◌++◌, length, length-append, get_or, take, drop, replicate, min, nat_le, refl, sym, ap, ◌∙◌, subst, inl, inr, arith}
 use Rattle.std.proofs.lemmas.Bool.{cases_lt}
 use Rattle.std.proofs.lemmas.Bool.Decides.{nat_tests}
 use Rattle.std.proofs.lemmas.List.{get_or-take, get_or-drop, get_or_append_left, get_or-append_right, get_or_past, get_or-replicate, length-take, length-take-le, append_assoc}
@@ -17,7 +17,7 @@ use Rattle.protocol.specs.Grounds.{reached}
 use Rattle.protocol.specs.Call as rules
 use Rattle.bench.specs.Certificates.{Written, Certifies, asked}
 use Rattle.life.specs.Calls.{told, certified}
-use Rattle.life.specs.Lives.{Makes, Backs}
+use Rattle.life.specs.Lives.{Backed, Makes, Backs}
 use Rattle.life.specs.declared.call.Outcome.{Outcome}
 use Rattle.life.specs.declared.call.Outcome.TheVariants.{Yes}
 
@@ -75,15 +75,17 @@ module _ (n q : ℕ) (p : ℕ → Bool) where
       }
 
   -- where the first m zeros were lent, what was written there and the rest of the zeros are witnesses
-  witnesses_lent : (m : ℕ) (c : List ℕ) → Written n q p (take m zeros) c → Witnesses n q p (c ++ drop m zeros)
-  witnesses_lent m c W =
+  backed_lent : (m : ℕ) (c : List ℕ) → Written n q p (take m zeros) c → Backed n q p (c ++ drop m zeros)
+  backed_lent m c W =
       let rest = drop q (take m zeros) in
       let joined : c ++ drop m zeros ≡ take q W.found ++ (rest ++ drop m zeros) =
       ap (λ (ws : List ℕ). ws ++ drop m zeros) W.bytes ∙ append_assoc (take q W.found) rest (drop m zeros) in
-      subst (Witnesses n q p) (sym joined)
-      (witnesses_blank W.found (rest ++ drop m zeros) W.enough W.witnesses
-      (blank_append rest (drop m zeros) (blank_drop q (take m zeros) (blank_take m zeros blank_zeros))
-      (blank_drop m zeros blank_zeros)))
+      subst (Backed n q p) (sym joined) (
+        omega (arith, length-take-le q W.found W.enough, length-append (take q W.found) (rest ++ drop m zeros)),
+        witnesses_blank W.found (rest ++ drop m zeros) W.enough W.witnesses
+            (blank_append rest (drop m zeros) (blank_drop q (take m zeros) (blank_take m zeros blank_zeros))
+            (blank_drop m zeros blank_zeros)),
+      )
 
 told_certified : (a : Result Bool Refusal) (w : List ℕ) → told (certified a w) ≡ asked a
 told_certified (Ok true) w = refl
@@ -106,7 +108,7 @@ pub makes_certificate :
     → Certifies u x (unless (nat_le 16 (length (take m zeros))) BufferLength 0 g) r (take m zeros) a c
     → m ≡ min room 16 → o ≡ certified a (c ++ drop m zeros)
     → rules.meaning u V x call ≡ rules.asking x (unless (nat_le 16 room) BufferLength 0 g) (reached u x r)
-    → ((w : List ℕ) → Witnesses (replicas u) (quorum_size u) (said x.held r) w → Backs u x call w) → Makes u V x call o x
+    → ((w : List ℕ) → Backed (replicas u) (quorum_size u) (said x.held r) w → Backs u x call w) → Makes u V x call o x
 makes_certificate {u} {V} {x} {call} {r} {m} {a} {c} {o} g room C e f h b =
     record {
       outcome =
@@ -119,6 +121,6 @@ makes_certificate {u} {V} {x} {call} {r} {m} {a} {c} {o} g room C e f h b =
       witnesses =
           λ w y. let s = yes_certified a (c ++ drop m zeros) w (sym f ∙ y) in
           b w
-          (subst (Witnesses (replicas u) (quorum_size u) (said x.held r)) s.1
-          (witnesses_lent (replicas u) (quorum_size u) (said x.held r) m c (C.yes s.0)));
+          (subst (Backed (replicas u) (quorum_size u) (said x.held r)) s.1
+          (backed_lent (replicas u) (quorum_size u) (said x.held r) m c (C.yes s.0)));
     }

@@ -1,5 +1,5 @@
 -- A life that was run to its end.
-use Rattle.std.proofs.Common.{◌≡◌, Result, Bool, ℕ, zero, suc, ◌<◌, ◌≤◌, true, false, ◌≢◌, eqb, List, [], ◌∷◌, length, get_or, replicate, take, Ok, sym, refl, ap, ◌∙◌, subst, arith}
+use Rattle.std.proofs.Common.{◌≡◌, rules, Result, Bool, ℕ, zero, suc, ◌<◌, ◌≤◌, true, false, ◌≢◌, eqb, List, [], ◌∷◌, length, get_or, replicate, take, Ok, sym, refl, ap, ◌∙◌, subst, arith}
 use Rattle.std.proofs.lemmas.List.{length-map}
 use Rattle.std.proofs.lemmas.Bool.{ne_eqb}
 use Rattle.std.specs.List.{AllByRecursion, IsDistinct}
@@ -8,7 +8,7 @@ use Rattle.refusal.specs.declared.Refusal.{Refusal}
 use Rattle.record.specs.Statements.{reply_by, commit_by}
 use Rattle.record.specs.declared.Record.{Record}
 use Rattle.register.specs.Sets.{Set, nothing, Emptiness}
-use Rattle.quorum.specs.Quorums.{said, signed_by, Witnesses}
+use Rattle.quorum.specs.Quorums.{said, signed_by}
 use Rattle.replica.specs.Replicas.{still}
 use Rattle.protocol.specs.Setup.{Setup, replicas, quorum_size}
 use Rattle.protocol.specs.Service.{Service}
@@ -24,7 +24,7 @@ use Rattle.bench.specs.States.{service_of, state_of, Opened}
 use Rattle.bench.specs.declared.open.Bench.{Bench}
 use Rattle.bench.specs.declared.setup.Setup as code
 use Rattle.life.specs.Calls.{call_of, calls_of}
-use Rattle.life.specs.Lives.{Backed, Backs, Made, Underway, WitnessesOf, Witnessed, Came, Lived, life_of}
+use Rattle.life.specs.Lives.{Backed, Backs, Underway, WitnessesOf, Witnessed, Lived, life_of}
 use Rattle.life.specs.declared.call.Turn.{Turn}
 
 -- the register over which a life began is the empty one
@@ -46,10 +46,11 @@ distinct_first :
 unfolding IsDistinct
 distinct_first zero w h f = tt
 distinct_first (suc q) [] h f = absurd (omega arith)
-distinct_first (suc q) (x ∷ w) h f =
-    (all_first (λ j. eqb x j ≡ false) q w (omega arith)
-    (λ j l. ne_eqb x (get_or w j 0) (f 0 (suc j) (omega arith) (omega arith))),
-    distinct_first q w (omega arith) (λ j k l m. f (suc j) (suc k) (omega arith) (omega arith)))
+distinct_first (suc q) (x ∷ w) h f = (
+  all_first (λ j. eqb x j ≡ false) q w (omega arith)
+      (λ j l. ne_eqb x (get_or w j 0) (f 0 (suc j) (omega arith) (omega arith))),
+  distinct_first q w (omega arith) (λ j k l m. f (suc j) (suc k) (omega arith) (omega arith)),
+)
 
 length_first : (q : ℕ) (w : List ℕ) → q ≤ length w → length (take q w) ≡ q
 length_first zero w h = refl
@@ -128,9 +129,7 @@ module _ (u : Setup) (V : Service) (n : ℕ) (o : open_grounds u true ≡ Ok tt)
 
 open_over_empty : (u : Setup) (b : Bool) → open_grounds u b ≡ Ok tt → b ≡ true
 open_over_empty u true e = refl
-open_over_empty u false e =
-    let m = unless_granted _ _ _ _ (unless_granted _ _ _ _ (unless_granted _ _ _ _ e).1).1 in
-    m.0
+open_over_empty u false e = search rules
 
 -- what is known once every call was made on a bench that was checked and opened
 module _
@@ -139,21 +138,25 @@ module _
   where
     pub lived_on_bench :
         (u : Setup) (s : code.Setup) (result : Result code.Setup Refusal) (r : R) (t : S) (b c : Bench R S)
-        (before after : List Turn)
+        (before after : List Turn) (z : State)
         → Opens u (held r) result → result ≡ Ok s → Opened held free s r b → b.service.now ≡ t
         → Underway (setup_of b.setup) (service_of fresh next answer (state b.service.now)) (state_of held free b)
         (calls_of before) (length after) after (state_of held free c)
+        → state_of held free c ≡ z
         → Emptiness (held r) true
         × ((o : open_grounds u true ≡ Ok tt)
-        × Lived (life_of u (service_of fresh next answer (state t)) (free r) before o) before after
-        (state_of held free c))
-    lived_on_bench u s result r t b c before after C e O f U =
+        × Lived (life_of u (service_of fresh next answer (state t)) (free r) before o) before after z)
+    lived_on_bench u s result r t b c before after z C e O f U h =
         let k = subst (λ q. Checks u C.empty q) e C.checks in
         let empty = open_over_empty u C.empty k.1 in
         let E = subst (Emptiness (held r)) empty C.tells in
         let o = subst (λ q. open_grounds u q ≡ Ok tt) empty k.1 in
         let V = service_of fresh next answer in
-        let U1 = subst (λ x. Underway (setup_of b.setup) (V (state b.service.now)) x (calls_of before) (length after) after (state_of held free c)) O.state U in
-        let U2 = subst (λ q. Underway (setup_of b.setup) (V (state q)) (record { stamped = []; held = held r; free = free r; replicas = replicate 16 still }) (calls_of before) (length after) after (state_of held free c)) f U1 in
-        let U3 = subst (λ w. Underway w (V (state t)) (record { stamped = []; held = held r; free = free r; replicas = replicate 16 still }) (calls_of before) (length after) after (state_of held free c)) (ap setup_of O.setup ∙ k.0) U2 in
-        (E, o, lived u (V (state t)) (free r) o before after (state_of held free c) (held r) E U3)
+        let at_open = λ (w : Setup) (q : A) (x : State).
+        Underway w (V q) x (calls_of before) (length after) after z in
+        let here = subst (λ x. Underway (setup_of b.setup) (V (state b.service.now)) (state_of held free b) (calls_of before) (length after) after x) h U in
+        let over = subst (at_open (setup_of b.setup) (state b.service.now)) O.state here in
+        let opening : State = record { stamped = []; held = held r; free = free r; replicas = replicate 16 still } in
+        let with_service = subst (λ q. at_open (setup_of b.setup) (state q) opening) f over in
+        let with_setup = subst (λ w. at_open w (state t) opening) (ap setup_of O.setup ∙ k.0) with_service in
+        (E, (o, lived u (V (state t)) (free r) o before after z (held r) E with_setup))

@@ -1,5 +1,5 @@
 -- A life while it runs: the first calls are made, and the others are still to be made.
-use Rattle.std.proofs.Common.{◌≡◌, ℕ, zero, suc, ◌+◌, ◌<◌, ◌≤◌, List, [], ◌∷◌, length, get_or, set, map, take, Some, None, Option, sym, refl, ap, ◌∙◌, subst, inl, inr, arith}
+use Rattle.std.proofs.Common.{◌≡◌, ℕ, zero, suc, ◌+◌, ◌<◌, List, [], ◌∷◌, length, get_or, set, map, take, Some, sym, refl, ap, ◌∙◌, subst, inl, inr, arith}
 use Rattle.std.proofs.Math.Numerals.{suc-eq-add-one}
 use Rattle.std.proofs.Math.Seq.{map-set_same}
 use Rattle.std.proofs.lemmas.Bool.{cases_lt}
@@ -11,10 +11,9 @@ use Rattle.protocol.specs.Call as rules
 use Rattle.protocol.specs.Life.{run, outcomes, nth}
 use Rattle.bench.specs.States.{service_of}
 use Rattle.bench.specs.declared.open.Bench.{Bench}
-use Rattle.life.specs.Calls.{call_of, calls_of, told, told_in}
+use Rattle.life.specs.Calls.{call_of, calls_of, told}
 use Rattle.life.specs.Lives.{Backs, Makes, Keeps, Made, Underway}
 use Rattle.life.specs.declared.call.Outcome.{Outcome}
-use Rattle.life.specs.declared.call.Outcome.TheVariants.{Yes}
 use Rattle.life.specs.declared.call.Turn.{Turn}
 
 -- ---- lists by their places
@@ -95,7 +94,7 @@ module _ (u : Setup) (V : Service) (x : State) (cs : List rules.Call) where
       let c = call_of t.call in
       let s : Turn = record { call = t.call; outcome = Some o } in
       let at : nth k cs ≡ Some c =
-          subst (λ ds. nth k ds ≡ Some c) U.calls (nth_map (λ (a : Turn). call_of a.call) ts k t (nth_get ts k d h)) in
+      subst (λ ds. nth k ds ≡ Some c) U.calls (nth_map (λ (a : Turn). call_of a.call) ts k t (nth_get ts k d h)) in
       let from = λ (P : State → Type 0). subst P U.state in
       record {
         calls = map-set_same (λ (a : Turn). call_of a.call) ts k s d refl ∙ U.calls;

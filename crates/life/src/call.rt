@@ -1,5 +1,5 @@
 //! Calls, and what comes of them.
-ghost use Rattle.std.specs.Prelude.{◌≡◌};
+ghost use Rattle.std.specs.Prelude.{◌≡◌, None};
 ghost use Rattle.life.specs.Calls.{granted_or_refused};
 
 use quorum::SIGNERS;
@@ -11,37 +11,95 @@ use replica::Verdict;
 #[derive(Clone, Copy, Debug)]
 pub enum Call<'a> {
     /// The operation goes to the lowest slot that is not stamped.
-    Stamp { operation: u64 },
+    Stamp {
+        operation: u64,
+    },
     /// A replica takes up the operation of the slot at the end of its line.
-    Deliver { replica: u64, slot: u64 },
+    Deliver {
+        replica: u64,
+        slot: u64,
+    },
     /// The leader looks for the operation of the slot at the end of its line.
-    Find { replica: u64 },
+    Find {
+        replica: u64,
+    },
     /// A replica has not got the operation of the slot at the end of its line.
-    Drop { replica: u64 },
+    Drop {
+        replica: u64,
+    },
     /// The leader decides a slot.
-    Decide { replica: u64, slot: u64, verdict: Verdict },
+    Decide {
+        replica: u64,
+        slot: u64,
+        verdict: Verdict,
+    },
     /// A replica takes up the leader's decision.
-    Prepare { replica: u64, slot: u64, verdict: Verdict },
+    Prepare {
+        replica: u64,
+        slot: u64,
+        verdict: Verdict,
+    },
     /// A replica has seen a quorum prepare a verdict.
-    Commit { replica: u64, slot: u64, verdict: Verdict },
+    Commit {
+        replica: u64,
+        slot: u64,
+        verdict: Verdict,
+    },
     /// A replica puts a verdict that a quorum committed into its line.
-    Settle { replica: u64, slot: u64, verdict: Verdict },
+    Settle {
+        replica: u64,
+        slot: u64,
+        verdict: Verdict,
+    },
     /// A replica answers again for a slot of its line.
-    Reply { replica: u64, slot: u64 },
+    Reply {
+        replica: u64,
+        slot: u64,
+    },
     /// A replica leaves for a view.
-    Leave { replica: u64, target: u64 },
+    Leave {
+        replica: u64,
+        target: u64,
+    },
     /// A foreign replica says anything.
-    Forge { statement: Record },
-    /// The leader of a view starts it with the merge of the picks.
-    Lead { replica: u64, picks: &'a [Record], length: u64, word: u64 },
-    /// A replica is ready to enter a view with the merge of the picks.
-    Start { replica: u64, picks: &'a [Record], length: u64, word: u64 },
+    Forge {
+        statement: Record,
+    },
+    /// The leader of a view starts it with the merge of the picks over a base.
+    Lead {
+        replica: u64,
+        picks: &'a [Record],
+        base_length: u64,
+        base_word: u64,
+    },
+    /// A replica is ready to enter a view with the merge of the picks over a base.
+    Start {
+        replica: u64,
+        picks: &'a [Record],
+        base_length: u64,
+        base_word: u64,
+    },
     /// A replica enters a view.
-    Enter { replica: u64, length: u64, word: u64, view: u64 },
+    Enter {
+        replica: u64,
+        length: u64,
+        word: u64,
+        view: u64,
+    },
     /// Whether an answer is certified. The witness buffer that is offered has `room` bytes.
-    Answer { room: u64, view: u64, slot: u64, word: u64, value: u64 },
+    Answer {
+        room: u64,
+        view: u64,
+        slot: u64,
+        word: u64,
+        value: u64,
+    },
     /// Whether a no-op is certified. The witness buffer that is offered has `room` bytes.
-    NoOp { room: u64, view: u64, slot: u64 },
+    NoOp {
+        room: u64,
+        view: u64,
+        slot: u64,
+    },
 }
 
 /// What comes of a call.
@@ -63,6 +121,18 @@ pub struct Turn<'a> {
     pub call: Call<'a>,
     /// Nothing as long as the call was not made.
     pub outcome: Option<Outcome>,
+}
+
+/// A call whose turn is still to come.
+impl<'a> From<Call<'a>> for Turn<'a> {
+    ghost from_gives = { λ call turn. turn ≡ record { call = call; outcome = None } };
+
+    fn from(call: Call<'a>) -> Turn<'a> {
+        Turn {
+            call,
+            outcome: None,
+        }
+    }
 }
 
 /// A grant or a refusal as an outcome.

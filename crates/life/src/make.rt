@@ -33,25 +33,62 @@ pub(crate) fn make<R: Register, S: Service>(bench: &mut Bench<'_, R, S>, call: &
         Call::Deliver { replica, slot } => bench.deliver(replica, slot).into(),
         Call::Find { replica } => bench.find(replica).into(),
         Call::Drop { replica } => bench.drop(replica).into(),
-        Call::Decide { replica, slot, verdict } => bench.decide(replica, slot, verdict).into(),
-        Call::Prepare { replica, slot, verdict } => bench.prepare(replica, slot, verdict).into(),
-        Call::Commit { replica, slot, verdict } => bench.commit(replica, slot, verdict).into(),
-        Call::Settle { replica, slot, verdict } => bench.settle(replica, slot, verdict).into(),
+        Call::Decide {
+            replica,
+            slot,
+            verdict,
+        } => bench.decide(replica, slot, verdict).into(),
+        Call::Prepare {
+            replica,
+            slot,
+            verdict,
+        } => bench.prepare(replica, slot, verdict).into(),
+        Call::Commit {
+            replica,
+            slot,
+            verdict,
+        } => bench.commit(replica, slot, verdict).into(),
+        Call::Settle {
+            replica,
+            slot,
+            verdict,
+        } => bench.settle(replica, slot, verdict).into(),
         Call::Reply { replica, slot } => bench.reply(replica, slot).into(),
         Call::Leave { replica, target } => bench.leave(replica, target).into(),
         Call::Forge { statement } => bench.forge(&statement).into(),
-        Call::Lead { replica, picks, length, word } => bench.lead(replica, picks, length, word).into(),
-        Call::Start { replica, picks, length, word } => bench.start(replica, picks, length, word).into(),
-        Call::Enter { replica, length, word, view } => bench.enter(replica, length, word, view).into(),
-        Call::Answer { room, view, slot, word, value } => {
+        Call::Lead {
+            replica,
+            picks,
+            base_length,
+            base_word,
+        } => bench.lead(replica, picks, base_length, base_word).into(),
+        Call::Start {
+            replica,
+            picks,
+            base_length,
+            base_word,
+        } => bench.start(replica, picks, base_length, base_word).into(),
+        Call::Enter {
+            replica,
+            length,
+            word,
+            view,
+        } => bench.enter(replica, length, word, view).into(),
+        Call::Answer {
+            room,
+            view,
+            slot,
+            word,
+            value,
+        } => {
             let mut witnesses = [0; SIGNERS];
-            let offered = &mut witnesses[..room.min(16) as usize];
+            let offered = &mut witnesses[..room.min(SIGNERS as u64) as usize];
             let answer = bench.answer(offered, view, slot, word, value);
             certified(answer, witnesses)
         }
         Call::NoOp { room, view, slot } => {
             let mut witnesses = [0; SIGNERS];
-            let offered = &mut witnesses[..room.min(16) as usize];
+            let offered = &mut witnesses[..room.min(SIGNERS as u64) as usize];
             let answer = bench.no_op(offered, view, slot);
             certified(answer, witnesses)
         }

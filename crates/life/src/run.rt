@@ -34,6 +34,7 @@ pub fn run_life<R: Register, S: Service>(
     turns: &mut [Turn<'_>],
 ) -> Result<Status, Refusal>
     ensures life { Runs (record { f = f; mask = foreign }) (service_of S.fresh S.next S.answer (S.state service.old)) (R.held register.old) (R.free register.old) turns.old result turns.new (R.held register.new) (R.free register.new) }
+    ensures kind { S.fresh (S.state service.new) ≡ S.fresh (S.state service.old) }
     ensures refused { IfErr result (λ _. register.new ≡ register.old) }
 {
     let setup = Setup::check(f, foreign, &*register)?;
