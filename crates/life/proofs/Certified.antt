@@ -17,7 +17,7 @@ use Rattle.protocol.specs.Grounds.{reached}
 use Rattle.protocol.specs.Call as rules
 use Rattle.bench.specs.Certificates.{Written, Certifies, asked}
 use Rattle.life.specs.Calls.{told, certified}
-use Rattle.life.specs.Lives.{Backed, Makes, Backs}
+use Rattle.life.specs.Making.{Backed, Makes, Backs}
 use Rattle.life.specs.declared.call.Outcome.{Outcome}
 use Rattle.life.specs.declared.call.Outcome.TheVariants.{Yes}
 

@@ -24,7 +24,8 @@ use Rattle.bench.specs.States.{service_of, state_of, Opened}
 use Rattle.bench.specs.declared.open.Bench.{Bench}
 use Rattle.bench.specs.declared.setup.Setup as code
 use Rattle.life.specs.Calls.{call_of, calls_of}
-use Rattle.life.specs.Lives.{Backed, Backs, Underway, WitnessesOf, Witnessed, Lived, life_of}
+use Rattle.life.specs.Making.{Backed, Backs, Underway}
+use Rattle.life.specs.Lives.{WitnessesOf, Witnessed, Lived, life_of}
 use Rattle.life.specs.declared.call.Turn.{Turn}
 
 -- the register over which a life began is the empty one

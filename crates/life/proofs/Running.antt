@@ -12,7 +12,7 @@ use Rattle.protocol.specs.Life.{run, outcomes, nth}
 use Rattle.bench.specs.States.{service_of}
 use Rattle.bench.specs.declared.open.Bench.{Bench}
 use Rattle.life.specs.Calls.{call_of, calls_of, told}
-use Rattle.life.specs.Lives.{Backs, Makes, Keeps, Made, Underway}
+use Rattle.life.specs.Making.{Backs, Makes, Keeps, Made, Underway}
 use Rattle.life.specs.declared.call.Outcome.{Outcome}
 use Rattle.life.specs.declared.call.Turn.{Turn}
 

@@ -3,7 +3,7 @@ ghost use Rattle.std.specs.Prelude.{◌≡◌};
 ghost use Rattle.bench.specs.Setups.{setup_of};
 ghost use Rattle.bench.specs.States.{service_of, state_of};
 ghost use Rattle.life.specs.Calls.{call_of, certified};
-ghost use Rattle.life.specs.Lives.{Makes, Keeps};
+ghost use Rattle.life.specs.Making.{Makes, Keeps};
 
 use crate::call::{Call, Outcome};
 use bench::Bench;

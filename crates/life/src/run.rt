@@ -3,7 +3,8 @@ ghost use Rattle.std.specs.Prelude.{◌≡◌, IfErr, length};
 ghost use Rattle.bench.specs.Setups.{setup_of};
 ghost use Rattle.bench.specs.States.{service_of, state_of};
 ghost use Rattle.life.specs.Calls.{calls_of};
-ghost use Rattle.life.specs.Lives.{Keeps, Underway, Runs};
+ghost use Rattle.life.specs.Making.{Keeps, Underway};
+ghost use Rattle.life.specs.Lives.{Runs};
 
 use crate::call::Turn;
 use crate::make::make;

@@ -1,7 +1,7 @@
 use Rattle.bench.specs.Setups.{setup_of}
 use Rattle.bench.specs.States.{service_of, state_of}
 use Rattle.life.specs.Calls.{calls_of}
-use Rattle.life.specs.Lives.{Keeps, Underway}
+use Rattle.life.specs.Making.{Keeps, Underway}
 use Rattle.life.proofs.run.make_all.Given as goal
 
 abbrev pub invariant-loop-turn : goal.invariant-loop-turn
