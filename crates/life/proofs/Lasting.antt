@@ -18,7 +18,7 @@ use Rattle.protocol.specs.Call as rules
 use Rattle.protocol.specs.Life.{Life, run, state_at}
 use Rattle.protocol.proofs.Entries.{nth_below, entered_of_held}
 use Rattle.protocol.proofs.Signing.{same_number}
-use Rattle.protocol.proofs.Ledger.{one_ledger_always}
+use Rattle.protocol.proofs.Ledger.{one_ledger, keeps_rules, refuses_own_or_full}
 use Rattle.bench.specs.Setups.{setup_of, Checks, Opens}
 use Rattle.bench.specs.States.{service_of, state_of, Opened}
 use Rattle.bench.specs.declared.open.Bench.{Bench}
@@ -113,7 +113,9 @@ module _ (u : Setup) (V : Service) (n : ℕ) (o : open_grounds u true ≡ Ok tt)
             U.state
             ∙ ap (λ j. run u V (opened n) (take j (calls_of before)))
             (sym (length-map after (λ (t : Turn). call_of t.call)) ∙ ap length U.calls);
-        ledger = one_ledger_always y;
+        rules = keeps_rules y;
+        refusals = refuses_own_or_full y;
+        ledger = one_ledger y;
       }
 
   pub lived :

@@ -6,7 +6,7 @@
 --   life_of u V n ts o        — the life of a bench u with the service V, over an empty register with n free places, with the calls of the turns ts; o says that its open is granted
 --   OpenRefused u s e         — opening a bench u over a register with the set s is refused with e
 --   Runs u V s n b r a s' n'  — the life of a bench u with the service V, over a register with the set s and n free places, was run: the answer is r, the turns b became a, and the register has the set s' and n' free places
--- The law of the life is OneLedger, in protocol's specs/Law.antt.
+-- The law of the life is OneLedger, in specs/Law.antt of protocol; the rules as a relation are in its specs/Steps.antt and specs/Rules.antt.
 use Rattle.std.specs.Prelude.{◌≡◌, ℕ, ◌≤◌, Bool, true, List, length, take, Some, Ok, Err, Result, slice_index}
 use Rattle.refusal.specs.declared.Refusal.{Refusal}
 use Rattle.record.specs.Statements.{reply_by, commit_by}
@@ -19,6 +19,7 @@ use Rattle.protocol.specs.Open.{open_grounds}
 use Rattle.protocol.specs.Call as rules
 use Rattle.protocol.specs.Life.{Life, state_at, outcomes_of, nth}
 use Rattle.protocol.specs.Law.{Signers, OneLedger}
+use Rattle.protocol.specs.Steps.{KeepsRules, RefusesOwnOrFull}
 use Rattle.bench.specs.declared.status.Status.{Status}
 use Rattle.life.specs.Calls.{call_of, calls_of, told_in}
 use Rattle.life.specs.declared.call.Outcome.TheVariants.{Yes}
@@ -47,6 +48,9 @@ pub record Lived (y : Life) (before after : List Turn) (z : State) : Type 0 wher
   pub came : (k : ℕ) (t : Turn) → nth k after ≡ Some t → Came y k t
   -- the bench ends in the state to which the rules bring it
   pub state : z ≡ state_at y (length y.calls)
+  -- every call of it keeps the rules of the replicas, and is refused on grounds of its own or since the register is full
+  pub rules : KeepsRules y
+  pub refusals : RefusesOwnOrFull y
   -- and the life keeps one ledger
   pub ledger : OneLedger y
 

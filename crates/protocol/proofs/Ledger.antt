@@ -6,8 +6,8 @@ use Rattle.protocol.specs.Service.{Service}
 use Rattle.protocol.specs.State.{State, opened}
 use Rattle.protocol.specs.Call.{Call, meaning}
 use Rattle.protocol.specs.Life.{Life, state_at}
-use Rattle.protocol.specs.Law.{OneLedgerAlways}
-use Rattle.protocol.specs.Steps.{model, CallsKeepRules, RefusalsAreOwnOrFull}
+use Rattle.protocol.specs.Law.{OneLedger}
+use Rattle.protocol.specs.Steps.{model, KeepsRules, RefusesOwnOrFull}
 use Rattle.protocol.proofs.Invariant.{Inv}
 use Rattle.protocol.proofs.Opening.{bound_of_open, few_of_open}
 use Rattle.protocol.proofs.Stepping.{Sound}
@@ -44,13 +44,13 @@ state_sound y k =
       room = refl;
     })
 
-pub calls_keep_rules : CallsKeepRules
-calls_keep_rules y k c = (call_step y.bench y.service (state_at y k) (state_sound y k) c).step
+pub keeps_rules : (y : Life) → KeepsRules y
+keeps_rules y k c = (call_step y.bench y.service (state_at y k) (state_sound y k) c).step
 
-pub refusals_own_or_full : RefusalsAreOwnOrFull
-refusals_own_or_full y k c short = (call_step y.bench y.service (state_at y k) (state_sound y k) c).refusals short
+pub refuses_own_or_full : (y : Life) → RefusesOwnOrFull y
+refuses_own_or_full y short k c = (call_step y.bench y.service (state_at y k) (state_sound y k) c).refusals short
 
-pub one_ledger_always : OneLedgerAlways
-one_ledger_always y =
+pub one_ledger : (y : Life) → OneLedger y
+one_ledger y =
     let good = λ (k : ℕ). (state_sound y k).inv in
     ledger y good (one_line y.bench y.service (model (state_at y (length y.calls))) (good (length y.calls)))

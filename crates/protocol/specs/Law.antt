@@ -8,7 +8,6 @@
 -- Of a line of 64 verdicts, as a number whose bit l is set where slot l is a no-op:
 --   Agrees y line s w a   — the line has an operation at slot s and the no-ops w below it, and a is what the single service answers for the slot along the line
 --   OneLedger y           — the law for the life y
---   OneLedgerAlways       — every life keeps the law, of every bench that opens, with every service and every number of free places
 -- The single service is one service, freshly cleared, that takes the slots from 0 upward and is fed the operations stamped in the life; a no-op of the line and an unstamped slot leave it as it is. It answers for a stamped slot that is no no-op of the line, so a certified answer's slot is one.
 use Rattle.std.specs.Prelude.{◌≡◌, ℕ, ◌%◌, ◌^◌, ◌<◌, ◌≤◌, true, false, ◌≢◌, List, length, take, Some, AllPairs}
 use Rattle.std.specs.List.{AllByRecursion}
@@ -78,6 +77,3 @@ pub record OneLedger (y : Life) : Type 0 where
       → Agrees y line s w a
   pub told_no_op :
       (k b v s : ℕ) → nth k y.calls ≡ Some (AskNoOp b v s) → nth k (outcomes_of y) ≡ Some Yes → bit line s ≡ true
-
-abbrev pub OneLedgerAlways : Type 0
-OneLedgerAlways = (y : Life) → OneLedger y

@@ -2,8 +2,8 @@
 --   model x               — a bench's state, without its storage
 --   Step u V x y          — the state x goes to y by a move that the rules allow
 --   OwnOrFull m           — if the call with the meaning m is refused, then on its own grounds, or since the register is full
---   CallsKeepRules        — whatever the life, and however long it has gone on, the next call is such a step
---   RefusalsAreOwnOrFull  — whatever the life, and however long it has gone on, the next call is refused so, if at all, where the service answers 64 bits: no honest replica says what breaks the layout
+--   KeepsRules y          — however long the life y has gone on, whatever call is put next is such a step
+--   RefusesOwnOrFull y    — however long the life y has gone on, whatever call is put next is refused so, if at all, where the service answers 64 bits: no honest replica says what breaks the layout
 use Rattle.std.specs.Prelude.{◌≡◌, ℕ, ◌⊎◌, Err}
 use Rattle.refusal.specs.Grounds.{refused}
 use Rattle.refusal.specs.declared.Ground.TheVariants.{RegisterFull}
@@ -25,14 +25,13 @@ pub record Step (u : Setup) (V : Service) (x y : State) : Type 0 where
   pub entry : Entry move
   pub moves : model y ≡ apply (model x) move
 
-abbrev pub CallsKeepRules : Type 0
-CallsKeepRules =
-    (y : Life) (k : ℕ) (c : Call)
-    → Step y.bench y.service (state_at y k) (meaning y.bench y.service (state_at y k) c).after
+abbrev pub KeepsRules : Life → Type 0
+KeepsRules y =
+    (k : ℕ) (c : Call) → Step y.bench y.service (state_at y k) (meaning y.bench y.service (state_at y k) c).after
 
 pub record OwnOrFull (m : Meaning) : Type 0 where
   pub either : (e : Refusal) → m.outcome ≡ Refused e → (m.own ≡ Err e) ⊎ (e ≡ refused RegisterFull 0)
 
-abbrev pub RefusalsAreOwnOrFull : Type 0
-RefusalsAreOwnOrFull =
-    (y : Life) (k : ℕ) (c : Call) → Short y.service → OwnOrFull (meaning y.bench y.service (state_at y k) c)
+abbrev pub RefusesOwnOrFull : Life → Type 0
+RefusesOwnOrFull y =
+    Short y.service → (k : ℕ) (c : Call) → OwnOrFull (meaning y.bench y.service (state_at y k) c)
