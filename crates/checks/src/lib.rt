@@ -92,6 +92,8 @@ pub fn worked_checks() -> ([[u64; 3]; 3], [(u8, u64); 2])
 }
 
 #[cfg(test)]
+mod bench_tests;
+#[cfg(test)]
 mod open_tests;
 #[cfg(test)]
 mod register_tests;
