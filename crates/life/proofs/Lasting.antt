@@ -1,10 +1,9 @@
 -- A life that was run to its end.
-use Rattle.std.proofs.Common.{◌≡◌, rules, Result, Bool, ℕ, zero, suc, ◌<◌, ◌≤◌, true, false, ◌≢◌, eqb, List, [], ◌∷◌, length, get_or, replicate, take, Ok, sym, refl, ap, ◌∙◌, subst, arith}
+use Rattle.std.proofs.Common.{◌≡◌, ℕ, zero, suc, ◌<◌, ◌≤◌, true, false, ◌≢◌, eqb, List, [], ◌∷◌, length, get_or, replicate, take, Ok, sym, refl, ap, ◌∙◌, subst, arith}
 use Rattle.std.proofs.lemmas.List.{length-map}
 use Rattle.std.proofs.lemmas.Bool.{ne_eqb}
 use Rattle.std.specs.List.{AllByRecursion, IsDistinct}
 use Rattle.std.proofs.lemmas.Map.Made.{AllPairs-from_IsDistinct}
-use Rattle.refusal.specs.declared.Refusal.{Refusal}
 use Rattle.record.specs.Statements.{reply_by, commit_by}
 use Rattle.record.specs.declared.Record.{Record}
 use Rattle.register.specs.Sets.{Set, nothing, Emptiness}
@@ -19,13 +18,13 @@ use Rattle.protocol.specs.Life.{Life, run, state_at}
 use Rattle.protocol.proofs.Entries.{nth_below, entered_of_held}
 use Rattle.protocol.proofs.Signing.{same_number}
 use Rattle.protocol.proofs.Ledger.{one_ledger, keeps_rules, refuses_own_or_full}
-use Rattle.bench.specs.Setups.{setup_of, Checks, Opens}
+use Rattle.bench.specs.Setups.{setup_of}
 use Rattle.bench.specs.States.{service_of, state_of, Opened}
 use Rattle.bench.specs.declared.open.Bench.{Bench}
 use Rattle.bench.specs.declared.setup.Setup as code
 use Rattle.life.specs.Calls.{call_of, calls_of}
-use Rattle.life.specs.Making.{Backed, Backs, Underway}
-use Rattle.life.specs.Lives.{WitnessesOf, Witnessed, Lived, life_of}
+use Rattle.life.specs.Making.{LivesOn, Backed, Backs, Underway}
+use Rattle.life.specs.Lives.{WitnessesOf, Ran, Witnessed, Lived, life_of}
 use Rattle.life.specs.declared.call.Turn.{Turn}
 
 -- the register over which a life began is the empty one
@@ -130,36 +129,35 @@ module _ (u : Setup) (V : Service) (n : ℕ) (o : open_grounds u true ≡ Ok tt)
       (length after) after z)
       (empty_set s E) U)
 
-open_over_empty : (u : Setup) (b : Bool) → open_grounds u b ≡ Ok tt → b ≡ true
-open_over_empty u true e = refl
-open_over_empty u false e = search rules
-
--- what is known once every call was made on a bench that was checked and opened
+-- what is known once every call was made on a new bench
 module _
     {R S A : Type 0} (held : R → Set) (free : R → ℕ) (state : S → A) (fresh : A → A) (next : A → ℕ → A)
     (answer : A → ℕ → ℕ)
   where
-    pub lived_on_bench :
-        (u : Setup) (s : code.Setup) (result : Result code.Setup Refusal) (r : R) (t : S) (b c : Bench R S)
-        (before after : List Turn) (z : State)
-        → Opens u (held r) result → result ≡ Ok s → Opened held free s r b → b.service.now ≡ t
+    pub lives_on :
+        (s : code.Setup) (r : R) (t : S) (b c : Bench R S) (before after : List Turn) (z : State)
+        → Opened held free s r b → b.service.now ≡ t
         → Underway (setup_of b.setup) (service_of fresh next answer (state b.service.now)) (state_of held free b)
         (calls_of before) (length after) after (state_of held free c)
         → state_of held free c ≡ z
-        → Emptiness (held r) true
-        × ((o : open_grounds u true ≡ Ok tt)
-        × Lived (life_of u (service_of fresh next answer (state t)) (free r) before o) before after z)
-    lived_on_bench u s result r t b c before after z C e O f U h =
-        let k = subst (λ q. Checks u C.empty q) e C.checks in
-        let empty = open_over_empty u C.empty k.1 in
-        let E = subst (Emptiness (held r)) empty C.tells in
-        let o = subst (λ q. open_grounds u q ≡ Ok tt) empty k.1 in
+        → LivesOn (setup_of s) (service_of fresh next answer (state t)) (held r) (free r) before after z
+    lives_on s r t b c before after z O f U h =
         let V = service_of fresh next answer in
-        let at_open = λ (w : Setup) (q : A) (x : State).
-        Underway w (V q) x (calls_of before) (length after) after z in
-        let here = subst (λ x. Underway (setup_of b.setup) (V (state b.service.now)) (state_of held free b) (calls_of before) (length after) after x) h U in
-        let over = subst (at_open (setup_of b.setup) (state b.service.now)) O.state here in
+        let end = λ (v : Setup) (q : S) (x : State).
+        Underway v (V (state q)) x (calls_of before) (length after) after z in
         let opening : State = record { stamped = []; held = held r; free = free r; replicas = replicate 16 still } in
-        let with_service = subst (λ q. at_open (setup_of b.setup) (state q) opening) f over in
-        let with_setup = subst (λ w. at_open w (state t) opening) (ap setup_of O.setup ∙ k.0) with_service in
-        (E, (o, lived u (V (state t)) (free r) o before after z (held r) E with_setup))
+        let here =
+        subst (Underway (setup_of b.setup) (V (state b.service.now)) (state_of held free b) (calls_of before) (length after) after) h U in
+        let over = subst (end (setup_of b.setup) b.service.now) O.state here in
+        let fed = subst (λ q. end (setup_of b.setup) q opening) f over in
+        let checked = subst (λ v. end v t opening) (ap setup_of O.setup) fed in
+        record { lived = λ E o. lived (setup_of s) (V (state t)) (free r) o before after z (held r) E checked }
+
+-- and of what is known then, where the bench was checked
+pub ran_on :
+    (u v : Setup) (V : Service) (s : Set) (n : ℕ) (before after : List Turn) (z : State)
+    → LivesOn v V s n before after z → v ≡ u → Emptiness s true → open_grounds u true ≡ Ok tt
+    → Ran u V s n before after z
+ran_on u v V s n before after z L e E o =
+    let M = subst (λ w. LivesOn w V s n before after z) e L in
+    record { empty = E; opens = o; lived = M.lived E o }

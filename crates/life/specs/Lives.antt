@@ -4,7 +4,8 @@
 --   Came y k t                — the turn t, in the place k of the life y, has what came of its call
 --   Lived y b a z             — the life y was run: the turns b became the turns a, and z is the state at its end
 --   life_of u V n ts o        — the life of a bench u with the service V, over an empty register with n free places, with the calls of the turns ts; o says that its open is granted
---   OpenRefused u s e         — opening a bench u over a register with the set s is refused with e
+--   Ran u V s n b a z         — a bench u with the service V was opened over a register with the set s and n free places, and lived: the turns b became the turns a, and z is the state at the end
+--   status_state z s n        — the state of a bench with the status z, over a register with the set s and n free places
 --   Runs u V s n b r a s' n'  — the life of a bench u with the service V, over a register with the set s and n free places, was run: the answer is r, the turns b became a, and the register has the set s' and n' free places
 -- The law of the life is OneLedger, in specs/Law.antt of protocol; the rules as a relation are in its specs/Steps.antt and specs/Rules.antt.
 use Rattle.std.specs.Prelude.{◌≡◌, ℕ, ◌≤◌, Bool, true, List, length, take, Some, Ok, Err, Result, slice_index}
@@ -57,16 +58,17 @@ pub record Lived (y : Life) (before after : List Turn) (z : State) : Type 0 wher
 abbrev pub life_of : (u : Setup) → Service → ℕ → List Turn → open_grounds u true ≡ Ok tt → Life
 life_of u V n ts o = record { bench = u; service = V; places = n; calls = calls_of ts; opens = o }
 
-pub record OpenRefused (u : Setup) (s : Set) (e : Refusal) : Type 0 where
-  -- whether the register is empty
-  pub empty : Bool
-  pub tells : Emptiness s empty
-  pub refused : open_grounds u empty ≡ Err e
+pub record Ran
+    (u : Setup) (V : Service) (s : Set) (n : ℕ) (before after : List Turn) (z : State) : Type 0 where
+  -- the register was empty, and the open was granted
+  pub empty : Emptiness s true
+  pub opens : open_grounds u true ≡ Ok tt
+  pub lived : Lived (life_of u V n before opens) before after z
+
+abbrev pub status_state : Status → Set → ℕ → State
+status_state z s n = record { stamped = z.operations.items; held = s; free = n; replicas = z.replicas }
 
 abbrev pub Runs : Setup → Service → Set → ℕ → List Turn → Result Status Refusal → List Turn → Set → ℕ → Type 0
-Runs u V s n before (Ok z) after s' n' =
-    Emptiness s true
-    × ((opens : open_grounds u true ≡ Ok tt)
-    × Lived (life_of u V n before opens) before after
-    (record { stamped = z.operations.items; held = s'; free = n'; replicas = z.replicas }))
-Runs u V s n before (Err e) after s' n' = OpenRefused u s e × (after ≡ before)
+Runs u V s n before (Ok z) after s' n' = Ran u V s n before after (status_state z s' n')
+Runs u V s n before (Err e) after s' n' =
+    (empty : Bool) × Emptiness s empty × (open_grounds u empty ≡ Err e) × (after ≡ before)

@@ -3,8 +3,8 @@ ghost use Rattle.std.specs.Prelude.{◌≡◌, IfErr, length};
 ghost use Rattle.bench.specs.Setups.{setup_of};
 ghost use Rattle.bench.specs.States.{service_of, state_of};
 ghost use Rattle.life.specs.Calls.{calls_of};
-ghost use Rattle.life.specs.Making.{Keeps, Underway};
-ghost use Rattle.life.specs.Lives.{Runs};
+ghost use Rattle.life.specs.Making.{Keeps, Underway, LivesOn};
+ghost use Rattle.life.specs.Lives.{status_state, Runs};
 
 use crate::call::Turn;
 use crate::make::make;
@@ -23,10 +23,26 @@ fn make_all<R: Register, S: Service>(bench: &mut Bench<'_, R, S>, turns: &mut [T
     }
 }
 
+// Makes every call in its turn on a new bench.
+fn live<R: Register, S: Service>(
+    setup: Setup,
+    register: &mut R,
+    service: &mut S,
+    turns: &mut [Turn<'_>],
+) -> Status
+    ensures life { LivesOn (setup_of setup) (service_of S.fresh S.next S.answer (S.state service.old)) (R.held register.old) (R.free register.old) turns.old turns.new (status_state result (R.held register.new) (R.free register.new)) }
+    ensures kind { S.fresh (S.state service.new) ≡ S.fresh (S.state service.old) }
+{
+    let mut bench = Bench::open(setup, register, service);
+    make_all(&mut bench, turns);
+    bench.close()
+}
+
 /// Opens a bench over the register and the service, and makes every call in its turn. What comes of
 /// it is written into the turns; the bench is ended, and what it kept is handed out.
 ///
 /// If the open is refused, no call is made, and register and turns are as they were.
+#[tactic(auto, using(crate::proofs::Lasting::ran_on))]
 pub fn run_life<R: Register, S: Service>(
     f: u64,
     foreign: u64,
@@ -39,7 +55,5 @@ pub fn run_life<R: Register, S: Service>(
     ensures refused { IfErr result (λ _. register.new ≡ register.old) }
 {
     let setup = Setup::check(f, foreign, &*register)?;
-    let mut bench = Bench::open(setup, register, service);
-    make_all(&mut bench, turns);
-    Ok(bench.close())
+    Ok(live(setup, register, service, turns))
 }
