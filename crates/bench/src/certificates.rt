@@ -10,6 +10,7 @@ ghost use Rattle.bench.specs.Setups.{setup_of};
 ghost use Rattle.bench.specs.States.{state_of};
 ghost use Rattle.bench.specs.Certificates.{Certifies, Finds};
 
+use crate::grounds::LAST_VIEW;
 use crate::open::Bench;
 use quorum::SIGNERS;
 use record::{Record, ends_below};
@@ -41,7 +42,7 @@ impl<'a, R: Register, S: Service> Bench<'a, R, S> {
         ensures grounds { result ≡ answer_grounds (state_of R.held R.free self.now) room view slot word }
     {
         check_room(room)?;
-        if view > 63 || self.check_stamped(slot).is_err() || !ends_below(word, slot as u8) {
+        if view > LAST_VIEW || self.check_stamped(slot).is_err() || !ends_below(word, slot as u8) {
             return Err(Ground::ArgumentRange.into());
         }
         Ok(())
@@ -53,7 +54,7 @@ impl<'a, R: Register, S: Service> Bench<'a, R, S> {
         ensures grounds { result ≡ no_op_grounds (state_of R.held R.free self.now) room view slot }
     {
         check_room(room)?;
-        if view > 63 || self.check_stamped(slot).is_err() {
+        if view > LAST_VIEW || self.check_stamped(slot).is_err() {
             return Err(Ground::ArgumentRange.into());
         }
         Ok(())

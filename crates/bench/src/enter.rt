@@ -4,7 +4,7 @@ ghost use Rattle.bench.specs.Setups.{setup_of};
 ghost use Rattle.bench.specs.States.{state_of, Does};
 ghost use Rattle.protocol.specs.Enter.{enter};
 
-use crate::grounds::check_line;
+use crate::grounds::{LAST_VIEW, check_line};
 use crate::open::Bench;
 use record::Record;
 use refusal::{Ground, Refusal};
@@ -18,7 +18,7 @@ impl<'a, R: Register, S: Service> Bench<'a, R, S> {
         ensures { result ≡ (enter (setup_of self.now.setup) (state_of R.held R.free self.now) replica length word view).grounds }
     {
         self.setup.check_honest(replica)?;
-        if view > 63 {
+        if view > LAST_VIEW {
             return Err(Ground::ArgumentRange.into());
         }
         check_line(length, word)?;

@@ -7,6 +7,7 @@ ghost use Rattle.bench.specs.Setups.{setup_of};
 ghost use Rattle.bench.specs.States.{state_of};
 
 use crate::open::Bench;
+use crate::status::SLOTS;
 use merge::ViewChange;
 use record::{Record, ends_below};
 use refusal::{Ground, Refusal};
@@ -14,11 +15,14 @@ use register::Register;
 use replica::{Replica, Step, Verdict};
 use service::Service;
 
+// The last view.
+pub(crate) const LAST_VIEW: u64 = 63;
+
 // Refuses unless length and word are a line.
 pub(crate) fn check_line(length: u64, word: u64) -> Result<(), Refusal>
     ensures { result ≡ if_line length word (Ok tt) }
 {
-    if length > 64 || !ends_below(word, length as u8) {
+    if length > SLOTS as u64 || !ends_below(word, length as u8) {
         return Err(Ground::ArgumentRange.into());
     }
     Ok(())

@@ -4,6 +4,7 @@ ghost use Rattle.bench.specs.Setups.{setup_of};
 ghost use Rattle.bench.specs.States.{state_of, Does};
 ghost use Rattle.protocol.specs.Leave.{leave};
 
+use crate::grounds::LAST_VIEW;
 use crate::open::Bench;
 use record::Record;
 use refusal::{Ground, Refusal};
@@ -17,7 +18,7 @@ impl<'a, R: Register, S: Service> Bench<'a, R, S> {
         ensures { result ≡ (leave (setup_of self.now.setup) (state_of R.held R.free self.now) replica target).grounds }
     {
         self.setup.check_honest(replica)?;
-        if target > 63 {
+        if target > LAST_VIEW {
             return Err(Ground::ArgumentRange.into());
         }
         let r = self.replica(replica);

@@ -20,14 +20,14 @@ impl<'a, R: Register, S: Service> Bench<'a, R, S> {
         &self,
         replica: u64,
         picks: &[Record],
-        length: u64,
-        word: u64,
+        base_length: u64,
+        base_word: u64,
     ) -> Result<(u8, u64), Refusal>
-        ensures { MatchResult result (λ line. ((start (setup_of self.now.setup) (state_of R.held R.free self.now) replica picks.now length word).grounds ≡ Ok tt) × (line ≡ merge (length, word) picks.now)) (λ e. (start (setup_of self.now.setup) (state_of R.held R.free self.now) replica picks.now length word).grounds ≡ Err e) }
+        ensures { MatchResult result (λ line. ((start (setup_of self.now.setup) (state_of R.held R.free self.now) replica picks.now base_length base_word).grounds ≡ Ok tt) × (line ≡ merge (base_length, base_word) picks.now)) (λ e. (start (setup_of self.now.setup) (state_of R.held R.free self.now) replica picks.now base_length base_word).grounds ≡ Err e) }
     {
         check_layout(picks)?;
         self.setup.check_honest(replica)?;
-        check_line(length, word)?;
+        check_line(base_length, base_word)?;
         let r = self.replica(replica);
         r.admits(Step::Start)?;
         if r.mark {
@@ -35,7 +35,7 @@ impl<'a, R: Register, S: Service> Bench<'a, R, S> {
         }
         let line = self
             .view_change(r.target)
-            .merging(&*self.register, picks, (length as u8, word))?;
+            .merging(&*self.register, picks, (base_length as u8, base_word))?;
         if !self.register.ask(&Record::view_start_by(self.setup.leader(r.target), r.target, line)) {
             return Err(Ground::ViewStartMissing.into());
         }
@@ -49,13 +49,13 @@ impl<'a, R: Register, S: Service> Bench<'a, R, S> {
         &mut self,
         replica: u64,
         picks: &[Record],
-        length: u64,
-        word: u64,
+        base_length: u64,
+        base_word: u64,
     ) -> Result<(), Refusal>
-        ensures does { Does R.held R.free self.old (λ u x. start u x replica picks.now length word) result self.new }
+        ensures does { Does R.held R.free self.old (λ u x. start u x replica picks.now base_length base_word) result self.new }
         ensures service { self.new.service.now ≡ self.old.service.now }
     {
-        let line = self.may_start(replica, picks, length, word)?;
+        let line = self.may_start(replica, picks, base_length, base_word)?;
         let r = self.replica(replica);
         self.register
             .enter(&Record::entry_by(replica as u8, r.target, line))?;
