@@ -4,7 +4,8 @@ use record::{Kind, Record};
 use register::{Register, insert};
 use registers::{SpareSheet, Table};
 
-const MEMBERS: Membership = Membership {
+/// The replicas of every part of this program: f is 1.
+pub const MEMBERS: Membership = Membership {
     replicas: 4,
     quorum: 3,
 };
