@@ -1,7 +1,7 @@
 -- What a certificate call answers, and what it writes.
 --   asked r                    — the outcome where a certificate call answered r
 --   Written n q p b c          — a buffer with the bytes b has the bytes c: q different numbers below n that pass the test p, and then the bytes as they were
---   Finds h n q r b a c        — looking for q replicas below n that said the statement r, by the set h, found them as a says, and a buffer with the bytes b has the bytes c then: they are written where they were found
+--   Finds h n q r b a c        — a tells whether q replicas below n said the statement r, by the set h; if so they are written into a buffer that had the bytes b, and c is what it has then
 --   Certifies u x g r b a c    — a certificate call for the statement r, with the grounds g, on a bench u in the state x, answered a, and the witness buffer with the bytes b has the bytes c then
 use Rattle.std.specs.Prelude.{◌≡◌, ◌≢◌, ℕ, ◌<◌, ◌≤◌, Bool, true, false, cond, List, ◌++◌, length, take, drop, Ok, Err, Result}
 use Rattle.refusal.specs.Grounds.{Answer}

@@ -1,8 +1,9 @@
 -- A bench as its rules see it, and what a call makes of it.
 -- Throughout, held and free say what a register of the bench's type holds, and how many free places it has.
---   state_of held free b          — the state of the bench b
---   service_of fresh next answer s — a service in the state s, by what it answers to an operation after those that it was fed since it was cleared
---   Does held free b a r c        — a call that is the action a, given who the replicas are and the state of the bench, answered r on the bench b and left the bench c
+--   service_of fresh next answer s  — a service in the state s, by what it answers to an operation after those that it was fed since it was cleared
+--   state_of held free b            — the state of the bench b
+--   Does held free b a r c          — a call that is the action a, given who the replicas are and the state of the bench, answered r on the bench b and left the bench c; refused, it left the register as it was
+--   Opened held free s r b          — the bench b was opened with the setup s over the register r
 use Rattle.std.specs.Prelude.{◌≡◌, ℕ, false, [], replicate, is_ok}
 use Rattle.refusal.specs.Grounds.{Answer}
 use Rattle.service.specs.Operations.{after}
@@ -39,7 +40,6 @@ pub record Does
   pub register : c.register.ghost_name ≡ b.register.ghost_name
   pub service : c.service.ghost_name ≡ b.service.ghost_name
 
--- the bench b was opened with the setup s over the register r
 pub record Opened {R S : Type 0} (held : R → Set) (free : R → ℕ) (s : code.Setup) (r : R) (b : Bench R S) : Type 0 where
   pub setup : b.setup ≡ s
   pub register : b.register.now ≡ r

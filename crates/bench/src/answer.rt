@@ -1,5 +1,5 @@
 //! What a service answers along a word.
-ghost use Rattle.std.specs.Prelude.{◌≡◌, ◌<◌, List, ℕ, length};
+ghost use Rattle.std.specs.Prelude.{◌≡◌, ◌<◌, length};
 ghost use Rattle.bench.specs.States.{service_of};
 ghost use Rattle.protocol.specs.Service.{book, answer_at};
 

@@ -1,7 +1,5 @@
 //! The calls that ask whether an answer or a no-op is certified, and by whom.
-ghost use Rattle.std.specs.Prelude.{◌≡◌, ◌<◌, ◌≤◌, Ok, true, is_ok, length, nat_le};
-ghost use Rattle.refusal.specs.Grounds.{unless};
-ghost use Rattle.refusal.specs.declared.Ground.TheVariants.{BufferLength};
+ghost use Rattle.std.specs.Prelude.{◌≡◌, ◌<◌, ◌≤◌, true, is_ok, length};
 ghost use Rattle.record.specs.Statements.{reply_by, commit_by};
 ghost use Rattle.protocol.specs.Setup.{replicas, quorum_size};
 ghost use Rattle.protocol.specs.Answer.{answer_grounds};
@@ -36,25 +34,27 @@ impl<'a, R: Register, S: Service> Bench<'a, R, S> {
         }
     }
 
-    // The grounds against asking for an answer with a buffer of so many bytes.
-    fn may_answer(&self, room: usize, view: u64, slot: u64, word: u64) -> Result<(), Refusal>
-        ensures below { is_ok result ≡ true → slot < 64 }
-        ensures grounds { result ≡ answer_grounds (state_of R.held R.free self.now) room view slot word }
-    {
-        check_room(room)?;
-        if view > LAST_VIEW || self.check_stamped(slot).is_err() || !ends_below(word, slot as u8) {
-            return Err(Ground::ArgumentRange.into());
-        }
-        Ok(())
-    }
-
     // The grounds against asking for a no-op with a buffer of so many bytes.
     fn may_no_op(&self, room: usize, view: u64, slot: u64) -> Result<(), Refusal>
         ensures below { is_ok result ≡ true → slot < 64 }
         ensures grounds { result ≡ no_op_grounds (state_of R.held R.free self.now) room view slot }
     {
-        check_room(room)?;
-        if view > LAST_VIEW || self.check_stamped(slot).is_err() {
+        if room < SIGNERS {
+            return Err(Ground::BufferLength.into());
+        }
+        if view > LAST_VIEW {
+            return Err(Ground::ArgumentRange.into());
+        }
+        self.check_stamped(slot)
+    }
+
+    // The grounds against asking for an answer with a buffer of so many bytes.
+    fn may_answer(&self, room: usize, view: u64, slot: u64, word: u64) -> Result<(), Refusal>
+        ensures below { is_ok result ≡ true → slot < 64 }
+        ensures grounds { result ≡ answer_grounds (state_of R.held R.free self.now) room view slot word }
+    {
+        self.may_no_op(room, view, slot)?;
+        if !ends_below(word, slot as u8) {
             return Err(Ground::ArgumentRange.into());
         }
         Ok(())
@@ -62,7 +62,7 @@ impl<'a, R: Register, S: Service> Bench<'a, R, S> {
 
     /// Whether the answer `value` for the slot in the view, with the word of the no-ops below the
     /// slot, is certified: whether a quorum said that REPLY. If so, a quorum of different replicas that
-    /// said it stands in the first bytes of the buffer, which has to have 16. It changes nothing else.
+    /// said it stands in the first bytes of the buffer, which has to have 16 bytes. It changes nothing else.
     pub fn answer(
         &self,
         witnesses: &mut [u8],
@@ -80,7 +80,7 @@ impl<'a, R: Register, S: Service> Bench<'a, R, S> {
 
     /// Whether the no-op of the slot in the view is certified: whether a quorum said COMMIT of no-op
     /// there. If so, a quorum of different replicas that said it stands in the first bytes of the
-    /// buffer, which has to have 16. It changes nothing else.
+    /// buffer, which has to have 16 bytes. It changes nothing else.
     pub fn no_op(&self, witnesses: &mut [u8], view: u64, slot: u64) -> Result<bool, Refusal>
         ensures { Certifies (setup_of self.now.setup) (state_of R.held R.free self.now) (no_op_grounds (state_of R.held R.free self.now) (length witnesses.old) view slot) (commit_by 0 view slot 1) witnesses.old result witnesses.new }
     {
@@ -88,14 +88,4 @@ impl<'a, R: Register, S: Service> Bench<'a, R, S> {
         let statement = Record::commit_by(0, view as u8, slot as u8, Verdict::NoOp.into());
         Ok(self.certify(witnesses, &statement))
     }
-}
-
-// Refuses a witness buffer of fewer than 16 bytes.
-fn check_room(room: usize) -> Result<(), Refusal>
-    ensures { result ≡ unless (nat_le 16 room) BufferLength 0 (Ok tt) }
-{
-    if room < SIGNERS {
-        return Err(Ground::BufferLength.into());
-    }
-    Ok(())
 }

@@ -13,7 +13,7 @@ use replica::Verdict;
 use service::Service;
 
 impl<'a, R: Register, S: Service> Bench<'a, R, S> {
-    // The grounds against it, but for the register's own.
+    // The grounds against the call, but for the register's own.
     fn may_commit(&self, replica: u64, slot: u64, verdict: Verdict) -> Result<(), Refusal>
         ensures { result ≡ (commit (setup_of self.now.setup) (state_of R.held R.free self.now) replica slot verdict).grounds }
     {
@@ -23,7 +23,7 @@ impl<'a, R: Register, S: Service> Bench<'a, R, S> {
         self.check_quorum(&Record::prepare_by(0, r.view, slot as u8, verdict.into()))
     }
 
-    /// Replica `replica` says COMMIT of a verdict on the slot that a quorum prepared, and seals it.
+    /// Replica `replica` says COMMIT of a verdict that a quorum prepared for the slot. A no-op is sealed.
     pub fn commit(&mut self, replica: u64, slot: u64, verdict: Verdict) -> Result<(), Refusal>
         ensures does { Does R.held R.free self.old (λ u x. commit u x replica slot verdict) result self.new }
         ensures service { self.new.service.now ≡ self.old.service.now }

@@ -11,7 +11,7 @@ use register::Register;
 use service::Service;
 
 impl<'a, R: Register, S: Service> Bench<'a, R, S> {
-    // The grounds against it, but for the register's own.
+    // The grounds against the call, but for the register's own.
     fn may_deliver(&self, replica: u64, slot: u64) -> Result<(), Refusal>
         ensures { result ≡ (deliver (setup_of self.now.setup) (service_of S.fresh S.next S.answer (S.state self.now.service.now)) (state_of R.held R.free self.now) replica slot).grounds }
     {

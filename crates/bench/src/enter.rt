@@ -13,7 +13,7 @@ use replica::Step;
 use service::Service;
 
 impl<'a, R: Register, S: Service> Bench<'a, R, S> {
-    // The grounds against it.
+    // The grounds against the call.
     fn may_enter(&self, replica: u64, length: u64, word: u64, view: u64) -> Result<(), Refusal>
         ensures { result ≡ (enter (setup_of self.now.setup) (state_of R.held R.free self.now) replica length word view).grounds }
     {

@@ -11,7 +11,7 @@ use register::Register;
 use service::Service;
 
 impl<'a, R: Register, S: Service> Bench<'a, R, S> {
-    // The grounds against it, but for the register's own.
+    // The grounds against the call, but for the register's own.
     fn may_forge(&self, statement: &Record) -> Result<(), Refusal>
         ensures { result ≡ (forge (setup_of self.now.setup) (state_of R.held R.free self.now) statement.now).grounds }
     {

@@ -1,6 +1,6 @@
 //! The grounds that several calls share.
 ghost use Rattle.std.specs.Prelude.{◌≡◌, ◌<◌, Ok, true, is_ok, length};
-ghost use Rattle.protocol.specs.Grounds.{if_honest, if_stamped, if_line, if_working, if_leader, if_open, if_none, if_said, reached, if_quorum, if_dropped};
+ghost use Rattle.protocol.specs.Grounds.{if_honest, if_stamped, if_line, if_working, if_leader, if_open, if_none, if_said, if_quorum, if_dropped};
 ghost use Rattle.protocol.specs.Setup.{replicas, quorum_size};
 ghost use Rattle.protocol.specs.State.{replica_at};
 ghost use Rattle.bench.specs.Setups.{setup_of};

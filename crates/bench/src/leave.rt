@@ -13,7 +13,7 @@ use replica::Step;
 use service::Service;
 
 impl<'a, R: Register, S: Service> Bench<'a, R, S> {
-    // The grounds against it, but for the register's own.
+    // The grounds against the call, but for the register's own.
     fn may_leave(&self, replica: u64, target: u64) -> Result<(), Refusal>
         ensures { result ≡ (leave (setup_of self.now.setup) (state_of R.held R.free self.now) replica target).grounds }
     {

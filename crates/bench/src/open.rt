@@ -1,8 +1,6 @@
 //! A bench, and opening one.
 ghost use Rattle.std.specs.Prelude.{◌≡◌};
-ghost use Rattle.protocol.specs.State.{opened};
-ghost use Rattle.bench.specs.Setups.{setup_of};
-ghost use Rattle.bench.specs.States.{state_of, Opened};
+ghost use Rattle.bench.specs.States.{Opened};
 
 use crate::setup::Setup;
 use crate::status::{REPLICAS, Status};
@@ -64,6 +62,7 @@ impl<'a, R: Register, S: Service> Bench<'a, R, S> {
 
     /// Ends the bench, and hands out what it kept.
     pub fn close(self) -> Status
+        // At its end the fields are pairs: 1.1.0 is the register, 1.1.1.0 the service.
         ensures status { result ≡ self.entry.status }
         ensures register { self.exit.1.1.0.now ≡ self.entry.register.now }
         ensures service { self.exit.1.1.1.0.now ≡ self.entry.service.now }

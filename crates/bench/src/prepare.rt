@@ -13,7 +13,7 @@ use replica::Verdict;
 use service::Service;
 
 impl<'a, R: Register, S: Service> Bench<'a, R, S> {
-    // The grounds against it, but for the register's own.
+    // The grounds against the call, but for the register's own.
     fn may_prepare(&self, replica: u64, slot: u64, verdict: Verdict) -> Result<(), Refusal>
         ensures { result ≡ (prepare (setup_of self.now.setup) (state_of R.held R.free self.now) replica slot verdict).grounds }
     {

@@ -20,7 +20,7 @@ fn below(word: u64, slot: u8) -> u64
 }
 
 impl<'a, R: Register, S: Service> Bench<'a, R, S> {
-    // The grounds against it, but for the register's own.
+    // The grounds against the call, but for the register's own.
     fn may_reply(&self, replica: u64, slot: u64) -> Result<(), Refusal>
         ensures below { is_ok result ≡ true → slot < 64 }
         ensures grounds { result ≡ (reply (setup_of self.now.setup) (service_of S.fresh S.next S.answer (S.state self.now.service.now)) (state_of R.held R.free self.now) replica slot).grounds }

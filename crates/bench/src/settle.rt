@@ -13,7 +13,7 @@ use replica::Verdict;
 use service::Service;
 
 impl<'a, R: Register, S: Service> Bench<'a, R, S> {
-    // The grounds against it.
+    // The grounds against the call.
     fn may_settle(&self, replica: u64, slot: u64, verdict: Verdict) -> Result<(), Refusal>
         ensures below { is_ok result ≡ true → slot < 64 }
         ensures grounds { result ≡ (settle (setup_of self.now.setup) (state_of R.held R.free self.now) replica slot verdict).grounds }
@@ -24,7 +24,7 @@ impl<'a, R: Register, S: Service> Bench<'a, R, S> {
         self.check_quorum(&Record::commit_by(0, r.view, slot as u8, verdict.into()))
     }
 
-    /// Replica `replica` puts a verdict on the slot that a quorum committed into its line, and seals it.
+    /// Replica `replica` puts a verdict that a quorum committed for the slot into its line. A no-op is sealed.
     pub fn settle(&mut self, replica: u64, slot: u64, verdict: Verdict) -> Result<(), Refusal>
         ensures does { Does R.held R.free self.old (λ u x. settle u x replica slot verdict) result self.new }
         ensures service { self.new.service.now ≡ self.old.service.now }

@@ -1,7 +1,6 @@
 //! The call stamp.
 ghost use Rattle.std.specs.Prelude.{◌≡◌};
-ghost use Rattle.bench.specs.Setups.{setup_of};
-ghost use Rattle.bench.specs.States.{state_of, Does};
+ghost use Rattle.bench.specs.States.{Does};
 ghost use Rattle.protocol.specs.Stamp.{stamp};
 
 use crate::open::Bench;

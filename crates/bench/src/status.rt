@@ -16,7 +16,7 @@ pub(crate) const REPLICAS: usize = 16;
 #[derive(Drop)]
 pub struct Status {
     pub(crate) operations: ArrayVec<u64, SLOTS>,
-    // A rule of the project: replicas lie as an array of plain structs, one of which is lent to be changed.
+    // An array of plain structs, one of which is lent to be changed.
     pub(crate) replicas: [Replica; REPLICAS],
 }
 

@@ -32,7 +32,7 @@ const DRAW_80: u64 = (2 << 62) + (3 << 58) + (80 << 26);
 const DRAW_70: u64 = (2 << 62) + (3 << 58) + (70 << 26);
 
 // What the foreign replica, number 0, says: that the balance is 100 still.
-const LIE: Record = Record {
+const FORGED_100: Record = Record {
     kind: Kind::Reply as u8,
     signer: 0,
     view: 0,
@@ -44,12 +44,12 @@ const LIE: Record = Record {
 };
 
 // The balance as it is.
-const TRUE: Record = Record { result: 70, ..LIE };
+const FORGED_70: Record = Record { result: 70, ..FORGED_100 };
 
-const LAST: Record = Record {
+const FORGED_0: Record = Record {
     slot: 3,
     result: 0,
-    ..LIE
+    ..FORGED_100
 };
 
 // As leader, that the first draw is a no-op.
@@ -57,7 +57,7 @@ const DECISION: Record = Record {
     kind: Kind::Decision as u8,
     verdict: 1,
     result: 0,
-    ..LIE
+    ..FORGED_100
 };
 
 const TURNS: [Turn<'static>; 33] = turns! {
@@ -69,9 +69,9 @@ const TURNS: [Turn<'static>; 33] = turns! {
     Deliver { replica: 3, slot: 0 }
     Deliver { replica: 1, slot: 1 }
     Deliver { replica: 2, slot: 1 }
-    Forge { statement: LIE }
+    Forge { statement: FORGED_100 }
     Answer { room: 16, view: 0, slot: 1, word: 0, value: 70 }
-    Forge { statement: TRUE }
+    Forge { statement: FORGED_70 }
     Answer { room: 16, view: 0, slot: 1, word: 0, value: 70 }
     Answer { room: 16, view: 0, slot: 1, word: 0, value: 100 }
     Deliver { replica: 3, slot: 1 }
@@ -89,7 +89,7 @@ const TURNS: [Turn<'static>; 33] = turns! {
     Leave { replica: 1, target: 1 }
     Reply { replica: 1, slot: 1 }
     Deliver { replica: 3, slot: 3 }
-    Forge { statement: LAST }
+    Forge { statement: FORGED_0 }
     Reply { replica: 2, slot: 3 }
     Answer { room: 16, view: 0, slot: 3, word: 0, value: 0 }
     Answer { room: 16, view: 0, slot: 1, word: 0, value: 70 }

@@ -27,7 +27,7 @@ fn print_certified<R: Register>(
 }
 
 // Prints a slot of a line: its operation, its verdict, and what is certified of it. The service has
-// been fed the operations below the slot.
+// been fed the operations below the slot, but for the no-ops of the line.
 fn print_slot<R: Register, S: Service + InWords>(
     rt: &HostRuntime,
     register: &R,

@@ -27,7 +27,7 @@ const READ_2000: u64 = (2 << 62) + (2000 << 48);
 const READ_2001: u64 = (2 << 62) + (2001 << 48);
 
 // What the foreign replica, number 2, says: that the flow at two metres is 6000.
-const LIE: Record = Record {
+const FORGED_6000: Record = Record {
     kind: Kind::Reply as u8,
     signer: 2,
     view: 0,
@@ -39,23 +39,23 @@ const LIE: Record = Record {
 };
 
 // The same for slot 4, which would be true if slot 3 were an operation.
-const LATER_LIE: Record = Record { slot: 4, ..LIE };
+const FORGED_6000_FOR_4: Record = Record { slot: 4, ..FORGED_6000 };
 
 // The same under the number of an honest replica.
-const LIE_OF_3: Record = Record { signer: 3, ..LIE };
+const FORGED_FOR_3: Record = Record { signer: 3, ..FORGED_6000 };
 
 // The word has the bit of its own slot, which breaks the layout.
-const BROKEN: Record = Record { word: 4, ..LIE };
+const OFF_LAYOUT: Record = Record { word: 4, ..FORGED_6000 };
 
 const DROP: Record = Record {
     kind: Kind::Drop as u8,
     slot: 3,
     result: 0,
-    ..LIE
+    ..FORGED_6000
 };
 
 // What the honest replicas say as they leave.
-const LEAVES_0: Record = Record {
+const VIEW_CHANGE_0: Record = Record {
     kind: Kind::ViewChange as u8,
     signer: 0,
     view: 1,
@@ -66,37 +66,37 @@ const LEAVES_0: Record = Record {
     result: 0,
 };
 
-const LEAVES_1: Record = Record {
+const VIEW_CHANGE_1: Record = Record {
     signer: 1,
-    ..LEAVES_0
+    ..VIEW_CHANGE_0
 };
 
-const LEAVES_3: Record = Record {
+const VIEW_CHANGE_3: Record = Record {
     signer: 3,
     slot: 5,
-    ..LEAVES_0
+    ..VIEW_CHANGE_0
 };
 
 // The foreign replica's, with a no-op at slot 2, which no quorum prepared.
-const LYING: Record = Record {
+const FORGED_WORD_12: Record = Record {
     signer: 2,
     word: 12,
-    ..LEAVES_0
+    ..VIEW_CHANGE_0
 };
 
 // The foreign replica's, without the no-op at slot 3.
-const SILENT: Record = Record {
+const FORGED_WORD_0: Record = Record {
     signer: 2,
     slot: 0,
     word: 0,
-    ..LEAVES_0
+    ..VIEW_CHANGE_0
 };
 
-const WITH_LYING: [Record; 3] = [LEAVES_0, LEAVES_1, LYING];
+const PICKS_0_1_2: [Record; 3] = [VIEW_CHANGE_0, VIEW_CHANGE_1, FORGED_WORD_12];
 
-const HONEST: [Record; 3] = [LEAVES_0, LEAVES_1, LEAVES_3];
+const PICKS_0_1_3: [Record; 3] = [VIEW_CHANGE_0, VIEW_CHANGE_1, VIEW_CHANGE_3];
 
-const WITH_SILENT: [Record; 3] = [LEAVES_3, SILENT, LEAVES_1];
+const PICKS_3_2_1: [Record; 3] = [VIEW_CHANGE_3, FORGED_WORD_0, VIEW_CHANGE_1];
 
 const TURNS: [Turn<'static>; 82] = turns! {
     Stamp { operation: LOAD_LOW }
@@ -109,9 +109,9 @@ const TURNS: [Turn<'static>; 82] = turns! {
     Deliver { replica: 1, slot: 1 }
     Deliver { replica: 1, slot: 2 }
     Answer { room: 16, view: 0, slot: 2, word: 0, value: 6200 }
-    Forge { statement: LIE }
-    Forge { statement: LIE_OF_3 }
-    Forge { statement: BROKEN }
+    Forge { statement: FORGED_6000 }
+    Forge { statement: FORGED_FOR_3 }
+    Forge { statement: OFF_LAYOUT }
     Deliver { replica: 2, slot: 0 }
     Deliver { replica: 3, slot: 1 }
     Deliver { replica: 3, slot: 0 }
@@ -146,24 +146,24 @@ const TURNS: [Turn<'static>; 82] = turns! {
     Settle { replica: 1, slot: 3, verdict: NoOp }
     Settle { replica: 3, slot: 3, verdict: NoOp }
     Reply { replica: 3, slot: 3 }
-    Forge { statement: LATER_LIE }
+    Forge { statement: FORGED_6000_FOR_4 }
     Answer { room: 16, view: 0, slot: 4, word: 0, value: 6000 }
     Leave { replica: 0, target: 1 }
     Deliver { replica: 0, slot: 4 }
-    Lead { replica: 1, picks: &HONEST, base_length: 0, base_word: 0 }
+    Lead { replica: 1, picks: &PICKS_0_1_3, base_length: 0, base_word: 0 }
     Leave { replica: 1, target: 1 }
     Leave { replica: 3, target: 1 }
-    Forge { statement: LYING }
-    Lead { replica: 1, picks: &WITH_LYING, base_length: 0, base_word: 0 }
-    Lead { replica: 0, picks: &HONEST, base_length: 0, base_word: 0 }
-    Start { replica: 0, picks: &HONEST, base_length: 0, base_word: 0 }
-    Lead { replica: 1, picks: &HONEST, base_length: 0, base_word: 0 }
-    Forge { statement: SILENT }
-    Start { replica: 0, picks: &HONEST, base_length: 0, base_word: 0 }
-    Start { replica: 1, picks: &HONEST, base_length: 0, base_word: 0 }
-    Start { replica: 1, picks: &WITH_SILENT, base_length: 0, base_word: 0 }
+    Forge { statement: FORGED_WORD_12 }
+    Lead { replica: 1, picks: &PICKS_0_1_2, base_length: 0, base_word: 0 }
+    Lead { replica: 0, picks: &PICKS_0_1_3, base_length: 0, base_word: 0 }
+    Start { replica: 0, picks: &PICKS_0_1_3, base_length: 0, base_word: 0 }
+    Lead { replica: 1, picks: &PICKS_0_1_3, base_length: 0, base_word: 0 }
+    Forge { statement: FORGED_WORD_0 }
+    Start { replica: 0, picks: &PICKS_0_1_3, base_length: 0, base_word: 0 }
+    Start { replica: 1, picks: &PICKS_0_1_3, base_length: 0, base_word: 0 }
+    Start { replica: 1, picks: &PICKS_3_2_1, base_length: 0, base_word: 0 }
     Enter { replica: 0, length: 5, word: 8, view: 1 }
-    Start { replica: 3, picks: &WITH_SILENT, base_length: 0, base_word: 0 }
+    Start { replica: 3, picks: &PICKS_3_2_1, base_length: 0, base_word: 0 }
     Enter { replica: 0, length: 5, word: 8, view: 1 }
     Enter { replica: 1, length: 5, word: 8, view: 1 }
     Enter { replica: 3, length: 5, word: 8, view: 1 }

@@ -1,5 +1,5 @@
 //! The line that picks merge to.
-// A rule of the project: merging answers a pair, length and word. Picks and base stay two arguments,
+// Merging answers a pair, length and word. Picks and base stay two arguments,
 // as the calls have them.
 ghost use Rattle.std.specs.Prelude.{◌≡◌, max, bit_or};
 ghost use Rattle.merge.specs.Merges.{merge, MergesAlike};
@@ -20,7 +20,6 @@ pub fn merge(picks: &[Record], base: (u8, u64)) -> (u8, u64)
     ensures line { result ≡ merge base picks.now }
     ensures alike { MergesAlike }
 {
-    // A rule of the project: picks are merged by `for`.
     let top = top(picks);
     let mut line = base;
     for pick in picks {

@@ -9,7 +9,7 @@ use record::Record;
 use refusal::{Ground, Refusal};
 
 // Refuses the first pick that fails the test, at its place. The test sees the picks before it too.
-// A rule of the project: picks are checked by `for`, with the index for the place of a refusal.
+// Picks are checked by `for`, with the index for the place of a refusal.
 pub(crate) fn first_fault<F: Fn(&[Record], &Record) -> bool>(
     picks: &[Record],
     why: Ground,

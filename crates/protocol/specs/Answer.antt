@@ -1,6 +1,6 @@
 -- The call answer: whether an answer is certified, that is, whether a quorum said that REPLY. It changes nothing.
 --   answer_grounds x b v s w       — the grounds, where the witness buffer has b bytes
---   answer_certified u x v s w a   — a quorum said REPLY for slot s in view v with the word w and the result a
+--   answer_certified u x v s w a   — whether a quorum said REPLY for slot s in view v with the word w and the result a
 use Rattle.std.specs.Prelude.{ℕ, ◌^◌, Bool, ◌&&◌, Ok, nat_le, nat_lt}
 use Rattle.refusal.specs.Grounds.{Answer, unless}
 use Rattle.refusal.specs.declared.Ground.TheVariants.{BufferLength, ArgumentRange}

@@ -1,6 +1,6 @@
 -- The call no-op: whether a no-op is certified, that is, whether a quorum said COMMIT of no-op there. It changes nothing.
 --   no_op_grounds x b v s     — the grounds, where the witness buffer has b bytes
---   no_op_certified u x v s   — a quorum said COMMIT of no-op for slot s in view v
+--   no_op_certified u x v s   — whether a quorum said COMMIT of no-op for slot s in view v
 use Rattle.std.specs.Prelude.{ℕ, Bool, ◌&&◌, Ok, nat_le}
 use Rattle.refusal.specs.Grounds.{Answer, unless}
 use Rattle.refusal.specs.declared.Ground.TheVariants.{BufferLength, ArgumentRange}

@@ -3,7 +3,7 @@ ghost use Rattle.record.specs.Layout.{Layout, keeps_layout, passes};
 
 use crate::{Kind, Record};
 
-// A rule of the project: the layout is one match over ranges of kinds, and a range ends in constants.
+// The layout is one match over ranges of kinds, and a range ends in constants.
 const REPLY: u8 = Kind::Reply as u8;
 
 const FIND: u8 = Kind::Find as u8;

@@ -43,7 +43,7 @@ pub enum Step {
 }
 
 /// What an honest replica holds. Every number is 0 when a bench opens.
-// A rule of the project: replicas lie as an array of plain structs. So the mark stands beside the target.
+// A bench has its replicas as an array of plain structs. So the mark stands beside the target.
 #[derive(Clone, Copy, Default, PartialEq, Eq, Debug)]
 pub struct Replica {
     /// The view that it entered last.

@@ -30,7 +30,7 @@ impl Replica {
     pub fn admits(&self, step: Step) -> Result<(), Refusal>
         ensures { result ≡ in_mode self.now step (Ok tt) }
     {
-        // A rule of the project: a replica matches its mode together with the step.
+        // A replica matches its mode together with the step.
         match (self.mode(), step) {
             (Mode::AtWork, Step::Work | Step::Leave | Step::Enter) => Ok(()),
             (Mode::Leaving, Step::Leave | Step::Start | Step::Enter) => Ok(()),
