@@ -3,7 +3,7 @@
 --   service_of fresh next answer s  — a service in the state s, by what it answers to an operation after those that it was fed since it was cleared
 --   state_of held free b            — the state of the bench b
 --   Does held free b a r c          — a call that is the action a, given who the replicas are and the state of the bench, answered r on the bench b and left the bench c; refused, it left the register as it was
---   Opened held free s r b          — the bench b was opened with the setup s over the register r
+--   Opened held free u r b          — the bench b is u, newly opened over the register r
 use Rattle.std.specs.Prelude.{◌≡◌, ℕ, false, [], replicate, is_ok}
 use Rattle.refusal.specs.Grounds.{Answer}
 use Rattle.service.specs.Operations.{after}
@@ -12,7 +12,6 @@ use Rattle.protocol.specs.Setup.{Setup}
 use Rattle.protocol.specs.Service.{Service}
 use Rattle.protocol.specs.State.{State, Action, answer_to, state_after}
 use Rattle.replica.specs.Replicas.{still}
-use Rattle.bench.specs.declared.setup.Setup as code
 use Rattle.bench.specs.Setups.{setup_of}
 use Rattle.bench.specs.declared.open.Bench.{Bench}
 
@@ -40,8 +39,8 @@ pub record Does
   pub register : c.register.ghost_name ≡ b.register.ghost_name
   pub service : c.service.ghost_name ≡ b.service.ghost_name
 
-pub record Opened {R S : Type 0} (held : R → Set) (free : R → ℕ) (s : code.Setup) (r : R) (b : Bench R S) : Type 0 where
-  pub setup : b.setup ≡ s
+pub record Opened {R S : Type 0} (held : R → Set) (free : R → ℕ) (u : Setup) (r : R) (b : Bench R S) : Type 0 where
+  pub setup : setup_of b.setup ≡ u
   pub register : b.register.now ≡ r
   -- nothing is stamped, and every replica is still
   pub state : state_of held free b ≡ record { stamped = []; held = held r; free = free r; replicas = replicate 16 still }

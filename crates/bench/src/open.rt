@@ -1,10 +1,12 @@
 //! A bench, and opening one.
-ghost use Rattle.std.specs.Prelude.{◌≡◌};
+ghost use Rattle.std.specs.Prelude.{◌≡◌, IfOk, MatchResult};
+ghost use Rattle.bench.specs.Setups.{setup_of, Granted, Refused};
 ghost use Rattle.bench.specs.States.{Opened};
 
 use crate::setup::Setup;
 use crate::status::{REPLICAS, Status};
 use arrayvec::ArrayVec;
+use refusal::Refusal;
 use register::Register;
 use replica::Replica;
 use service::Service;
@@ -20,10 +22,9 @@ pub struct Bench<'a, R, S> {
 }
 
 impl<'a, R: Register, S: Service> Bench<'a, R, S> {
-    /// Opens a bench with a setup that was checked over the register. Nothing is stamped, and every
-    /// replica is still.
-    pub fn open(setup: Setup, register: &'a mut R, service: &'a mut S) -> Bench<'a, R, S>
-        ensures opened { Opened R.held R.free setup register.old result }
+    // A bench on which nothing is stamped, and every replica is still.
+    fn new(setup: Setup, register: &'a mut R, service: &'a mut S) -> Bench<'a, R, S>
+        ensures opened { Opened R.held R.free (setup_of setup) register.old result }
         ensures service { result.service.now ≡ service.old }
         ensures lent_register { result.register.ghost_name ≡ register.entry.ghost_name }
         ensures lent_service { result.service.ghost_name ≡ service.entry.ghost_name }
@@ -37,6 +38,23 @@ impl<'a, R: Register, S: Service> Bench<'a, R, S> {
             register,
             service,
         }
+    }
+
+    /// Opens a bench over an empty register. Nothing is stamped, and every replica is still. It is
+    /// refused on the grounds that `Setup::check` tries, which only looks at the register.
+    pub fn open(
+        f: u64,
+        foreign: u64,
+        register: &'a mut R,
+        service: &'a mut S,
+    ) -> Result<Bench<'a, R, S>, Refusal>
+        ensures opens { MatchResult result (λ b. Granted (record { f = f; mask = foreign }) (R.held register.old) × Opened R.held R.free (record { f = f; mask = foreign }) register.old b) (λ e. Refused (record { f = f; mask = foreign }) (R.held register.old) e) }
+        ensures service { IfOk result (λ b. b.service.now ≡ service.old) }
+        ensures lent_register { IfOk result (λ b. b.register.ghost_name ≡ register.entry.ghost_name) }
+        ensures lent_service { IfOk result (λ b. b.service.ghost_name ≡ service.entry.ghost_name) }
+    {
+        let setup = Setup::check(f, foreign, &*register)?;
+        Ok(Bench::new(setup, register, service))
     }
 
     /// Who the replicas are.

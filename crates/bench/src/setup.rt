@@ -21,12 +21,12 @@ pub struct Setup {
 impl Setup {
     ghost use Rattle.protocol.specs.Setup.{replicas, quorum_size, foreign, leader};
     ghost use Rattle.protocol.specs.Grounds.{if_honest};
-    ghost use Rattle.bench.specs.Setups.{setup_of, Opens};
+    ghost use Rattle.bench.specs.Setups.{setup_of, Checks};
 
     /// Tries the grounds against an open, in the order of their numbers. The register is only asked
     /// whether it is empty.
     pub fn check<R: Register>(f: u64, foreign: u64, register: &R) -> Result<Setup, Refusal>
-        ensures { Opens (record { f = f; mask = foreign }) (R.held register.now) result }
+        ensures { Checks (record { f = f; mask = foreign }) (R.held register.now) result }
     {
         let empty = register.is_empty();
         if f < 1 || f > 5 {
