@@ -1,5 +1,6 @@
 //! Making one call.
 ghost use Rattle.std.specs.Prelude.{◌≡◌};
+ghost use Rattle.protocol.specs.Call.{AskAnswer, AskNoOp};
 ghost use Rattle.bench.specs.Setups.{setup_of};
 ghost use Rattle.bench.specs.States.{service_of, state_of};
 ghost use Rattle.life.specs.Calls.{call_of, certified};
@@ -23,7 +24,39 @@ fn certified(answer: Result<bool, Refusal>, witnesses: [u8; SIGNERS]) -> Outcome
     }
 }
 
-// Makes a call, with a buffer of the runner's own for witnesses.
+// Asks whether an answer is certified, with a buffer of the runner's own for witnesses.
+fn ask_answer<R: Register, S: Service>(
+    bench: &Bench<'_, R, S>,
+    room: u64,
+    view: u64,
+    slot: u64,
+    word: u64,
+    value: u64,
+) -> Outcome
+    ensures { Makes (setup_of bench.now.setup) (service_of S.fresh S.next S.answer (S.state bench.now.service.now)) (state_of R.held R.free bench.now) (AskAnswer room view slot word value) result (state_of R.held R.free bench.now) }
+{
+    let mut witnesses = [0; SIGNERS];
+    let offered = &mut witnesses[..room.min(SIGNERS as u64) as usize];
+    let answer = bench.answer(offered, view, slot, word, value);
+    certified(answer, witnesses)
+}
+
+// Asks whether a no-op is certified, likewise.
+fn ask_no_op<R: Register, S: Service>(
+    bench: &Bench<'_, R, S>,
+    room: u64,
+    view: u64,
+    slot: u64,
+) -> Outcome
+    ensures { Makes (setup_of bench.now.setup) (service_of S.fresh S.next S.answer (S.state bench.now.service.now)) (state_of R.held R.free bench.now) (AskNoOp room view slot) result (state_of R.held R.free bench.now) }
+{
+    let mut witnesses = [0; SIGNERS];
+    let offered = &mut witnesses[..room.min(SIGNERS as u64) as usize];
+    let answer = bench.no_op(offered, view, slot);
+    certified(answer, witnesses)
+}
+
+// Makes a call.
 pub(crate) fn make<R: Register, S: Service>(bench: &mut Bench<'_, R, S>, call: &Call<'_>) -> Outcome
     ensures makes { Makes (setup_of bench.old.setup) (service_of S.fresh S.next S.answer (S.state bench.old.service.now)) (state_of R.held R.free bench.old) (call_of call.now) result (state_of R.held R.free bench.new) }
     ensures keeps { Keeps (λ s. S.fresh (S.state s)) bench.old bench.new }
@@ -80,17 +113,7 @@ pub(crate) fn make<R: Register, S: Service>(bench: &mut Bench<'_, R, S>, call: &
             slot,
             word,
             value,
-        } => {
-            let mut witnesses = [0; SIGNERS];
-            let offered = &mut witnesses[..room.min(SIGNERS as u64) as usize];
-            let answer = bench.answer(offered, view, slot, word, value);
-            certified(answer, witnesses)
-        }
-        Call::NoOp { room, view, slot } => {
-            let mut witnesses = [0; SIGNERS];
-            let offered = &mut witnesses[..room.min(SIGNERS as u64) as usize];
-            let answer = bench.no_op(offered, view, slot);
-            certified(answer, witnesses)
-        }
+        } => ask_answer(bench, room, view, slot, word, value),
+        Call::NoOp { room, view, slot } => ask_no_op(bench, room, view, slot),
     }
 }

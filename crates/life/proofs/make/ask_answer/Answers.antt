@@ -1,0 +1,8 @@
+-- A certificate call, by the lemma for both.
+use Rattle.std.proofs.Common.{rules}
+use Rattle.life.proofs.Certified.{makes_certificate}
+use Rattle.life.proofs.make.ask_answer.Goals as goal
+
+pub returns : goal.returns
+returns g c =
+    makes_certificate _ c.args.room c.answer-answer.ensures c.min.ensures c.certified.ensures (search rules) (search rules)
