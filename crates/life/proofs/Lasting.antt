@@ -1,7 +1,8 @@
 -- A life that was run to its end.
 use Rattle.std.proofs.Common.{◌≡◌, ℕ, zero, suc, ◌<◌, ◌≤◌, true, false, ◌≢◌, eqb, List, [], ◌∷◌, length, get_or, replicate, take, Ok, sym, refl, ap, ◌∙◌, subst, arith}
-use Rattle.std.proofs.lemmas.List.{length-map}
+use Rattle.std.proofs.lemmas.List.{length-map, length-take-le}
 use Rattle.std.proofs.lemmas.Bool.{ne_eqb}
+use Rattle.std.proofs.lemmas.Option.{slice_get_within}
 use Rattle.std.specs.List.{AllByRecursion, IsDistinct}
 use Rattle.std.proofs.lemmas.Map.Made.{AllPairs-from_IsDistinct}
 use Rattle.record.specs.Statements.{reply_by, commit_by}
@@ -15,7 +16,7 @@ use Rattle.protocol.specs.State.{State, opened}
 use Rattle.protocol.specs.Open.{open_grounds}
 use Rattle.protocol.specs.Call as rules
 use Rattle.protocol.specs.Life.{Life, run, state_at}
-use Rattle.protocol.proofs.Entries.{nth_below, entered_of_held}
+use Rattle.protocol.proofs.Entries.{entered_of_held}
 use Rattle.protocol.proofs.Signing.{same_number}
 use Rattle.protocol.proofs.Ledger.{one_ledger, keeps_rules, refuses_own_or_full}
 use Rattle.bench.specs.Setups.{setup_of}
@@ -52,11 +53,6 @@ distinct_first (suc q) (x ∷ w) h f = (
   distinct_first q w (omega arith) (λ j k l m. f (suc j) (suc k) (omega arith) (omega arith)),
 )
 
-length_first : (q : ℕ) (w : List ℕ) → q ≤ length w → length (take q w) ≡ q
-length_first zero w h = refl
-length_first (suc q) [] h = absurd (omega arith)
-length_first (suc q) (x ∷ w) h = ap suc (length_first q w (omega arith))
-
 -- ---- witnesses, in terms of the calls
 
 module _ (y : Life) (k : ℕ) where
@@ -70,7 +66,7 @@ module _ (y : Life) (k : ℕ) where
         signers =
             record {
               who = take q w;
-              enough = length_first q w B.0;
+              enough = length-take-le q w B.0;
               different = AllPairs-from_IsDistinct same_number (take q w) (distinct_first q w B.0 W.different);
               each =
                   all_first _ q w B.0
@@ -106,7 +102,7 @@ module _ (u : Setup) (V : Service) (n : ℕ) (o : open_grounds u true ≡ Ok tt)
       record {
         calls = U.calls;
         came = λ k t e.
-            let M = U.made k t (nth_below k after t e) e in
+            let M = U.made k t (slice_get_within after k t e) e in
             record { outcome = M.outcome; witnesses = λ w f. witnessed y k (call_of t.call) w (M.witnesses w f) };
         state =
             U.state
@@ -117,7 +113,7 @@ module _ (u : Setup) (V : Service) (n : ℕ) (o : open_grounds u true ≡ Ok tt)
         ledger = one_ledger y;
       }
 
-  pub lived :
+  lived :
       (s : Set) → Emptiness s true
       → Underway u V (record { stamped = []; held = s; free = n; replicas = replicate 16 still }) (calls_of before)
       (length after) after z

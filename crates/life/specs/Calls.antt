@@ -1,12 +1,11 @@
 -- Calls, turns and outcomes of code, as the rules have them.
---   call_of c              — the call c, as the rules have it
---   calls_of ts            — the calls of the turns ts, in order
---   told o                 — the outcome o, without its witnesses
---   told_if o              — the same where there is an outcome
---   told_in t              — the outcome that stands in the turn t, if one does
---   granted_or_refused a   — a grant or a refusal as an outcome
---   certified a w          — the outcome of a certificate call that answered a and left the bytes w
-use Rattle.std.specs.Prelude.{ℕ, Bool, true, false, List, map, Some, None, Ok, Err, Option, Result}
+--   call_of c             — the call c, as the rules have it
+--   calls_of ts           — the calls of the turns ts, in order
+--   told o                — the outcome o, without its witnesses
+--   told_in t             — the outcome that stands in the turn t, if one does
+--   granted_or_refused a  — a grant or a refusal as an outcome
+--   certified a w         — the outcome of a certificate call that answered a and left the bytes w
+use Rattle.std.specs.Prelude.{ℕ, Bool, true, false, List, map, Ok, Err, Option, Result, option_map}
 use Rattle.refusal.specs.Grounds.{Answer}
 use Rattle.refusal.specs.declared.Refusal.{Refusal}
 use Rattle.protocol.specs.Call as rules
@@ -43,12 +42,8 @@ told (Yes w) = rules.Yes
 told No = rules.No
 told (Refused e) = rules.Refused e
 
-abbrev pub told_if : Option Outcome → Option rules.Outcome
-told_if (Some o) = Some (told o)
-told_if None = None
-
 abbrev pub told_in : Turn → Option rules.Outcome
-told_in t = told_if t.outcome
+told_in t = option_map told t.outcome
 
 abbrev pub granted_or_refused : Answer → Outcome
 granted_or_refused (Ok _) = Granted

@@ -8,7 +8,7 @@
 --   status_state z s n        — the state of a bench with the status z, over a register with the set s and n free places
 --   Runs u V s n b r a s' n'  — the life of a bench u with the service V, over a register with the set s and n free places, was run: the answer is r, the turns b became a, and the register has the set s' and n' free places
 -- The law of the life is OneLedger, in specs/Law.antt of protocol; the rules as a relation are in its specs/Steps.antt and specs/Rules.antt.
-use Rattle.std.specs.Prelude.{◌≡◌, ℕ, ◌≤◌, Bool, true, List, length, take, Some, Ok, Err, Result, slice_index}
+use Rattle.std.specs.Prelude.{◌≡◌, ℕ, ◌≤◌, Bool, true, List, length, take, Some, Ok, Err, Result, slice_get, slice_index}
 use Rattle.refusal.specs.declared.Refusal.{Refusal}
 use Rattle.record.specs.Statements.{reply_by, commit_by}
 use Rattle.record.specs.declared.Record.{Record}
@@ -18,7 +18,7 @@ use Rattle.protocol.specs.Service.{Service}
 use Rattle.protocol.specs.State.{State}
 use Rattle.protocol.specs.Open.{open_grounds}
 use Rattle.protocol.specs.Call as rules
-use Rattle.protocol.specs.Life.{Life, state_at, outcomes_of, nth}
+use Rattle.protocol.specs.Life.{Life, state_at, outcomes_of}
 use Rattle.protocol.specs.Law.{Signers, OneLedger}
 use Rattle.protocol.specs.Steps.{KeepsRules, RefusesOwnOrFull}
 use Rattle.bench.specs.declared.status.Status.{Status}
@@ -38,7 +38,7 @@ Witnessed y k c ws = ⊥
 
 pub record Came (y : Life) (k : ℕ) (t : Turn) : Type 0 where
   -- the outcome that the rules give
-  pub outcome : told_in t ≡ nth k (outcomes_of y)
+  pub outcome : told_in t ≡ slice_get (outcomes_of y) k
   -- and, where it is yes, witnesses
   pub witnesses : (w : List ℕ) → t.outcome ≡ Some (Yes w) → Witnessed y k (call_of t.call) w
 
@@ -46,7 +46,7 @@ pub record Lived (y : Life) (before after : List Turn) (z : State) : Type 0 wher
   -- the calls are as they were
   pub calls : calls_of after ≡ calls_of before
   -- each turn has what came of its call
-  pub came : (k : ℕ) (t : Turn) → nth k after ≡ Some t → Came y k t
+  pub came : (k : ℕ) (t : Turn) → slice_get after k ≡ Some t → Came y k t
   -- the bench ends in the state to which the rules bring it
   pub state : z ≡ state_at y (length y.calls)
   -- every call of it keeps the rules of the replicas, and is refused on grounds of its own or since the register is full

@@ -6,7 +6,7 @@
 --   Made u V x cs j t         — the turn t has what came of the call in the place j of the calls cs, which were made in turn from the state x
 --   Underway u V x cs k ts y  — of the turns ts, with the calls cs, the first k were made from the state x, and y is the state then
 --   LivesOn u V s n b a z     — on a new bench u with the service V, over a register with the set s and n free places, the turns b became the turns a, and z is the state at the end: where the open is granted, that is the life
-use Rattle.std.specs.Prelude.{◌≡◌, ℕ, ◌<◌, ◌≤◌, Bool, true, List, length, take, Some, Ok}
+use Rattle.std.specs.Prelude.{◌≡◌, ℕ, ◌<◌, ◌≤◌, Bool, true, List, length, take, Some, Ok, slice_get}
 use Rattle.record.specs.Statements.{reply_by, commit_by}
 use Rattle.register.specs.Sets.{Set, Emptiness}
 use Rattle.quorum.specs.Quorums.{said, Witnesses}
@@ -15,7 +15,7 @@ use Rattle.protocol.specs.Service.{Service}
 use Rattle.protocol.specs.State.{State}
 use Rattle.protocol.specs.Open.{open_grounds}
 use Rattle.protocol.specs.Call as rules
-use Rattle.protocol.specs.Life.{run, outcomes, nth}
+use Rattle.protocol.specs.Life.{run, outcomes}
 use Rattle.bench.specs.declared.open.Bench.{Bench}
 use Rattle.life.specs.Calls.{call_of, calls_of, told, told_in}
 use Rattle.life.specs.Lives.{life_of, Lived}
@@ -43,13 +43,13 @@ pub record Keeps {R S A : Type 0} (kind_of : S → A) (b c : Bench R S) : Type 0
   pub kind : kind_of c.service.now ≡ kind_of b.service.now
 
 pub record Made (u : Setup) (V : Service) (x : State) (cs : List rules.Call) (j : ℕ) (t : Turn) : Type 0 where
-  pub outcome : told_in t ≡ nth j (outcomes u V x cs)
+  pub outcome : told_in t ≡ slice_get (outcomes u V x cs) j
   pub witnesses : (w : List ℕ) → t.outcome ≡ Some (Yes w) → Backs u (run u V x (take j cs)) (call_of t.call) w
 
 pub record Underway
     (u : Setup) (V : Service) (x : State) (cs : List rules.Call) (k : ℕ) (ts : List Turn) (y : State) : Type 0 where
   pub calls : calls_of ts ≡ cs
-  pub made : (j : ℕ) (t : Turn) → j < k → nth j ts ≡ Some t → Made u V x cs j t
+  pub made : (j : ℕ) (t : Turn) → j < k → slice_get ts j ≡ Some t → Made u V x cs j t
   pub state : y ≡ run u V x (take k cs)
 
 pub record LivesOn

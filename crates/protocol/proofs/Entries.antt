@@ -1,6 +1,6 @@
 -- The register and the stamped operations along a life.
 --   Effect x m  — after the call with the meaning m the register of the state x holds what it held and what the call entered, and nothing else; and stamped operations stay stamped
-use Rattle.std.proofs.Common.{◌≡◌, ℕ, zero, suc, ◌<◌, ◌≤◌, Bool, true, false, cond, ◌⊎◌, List, [], ◌∷◌, length, take, is_ok, Some, None, Option, sym, refl, ap, ◌∙◌, subst, inl, inr, arith}
+use Rattle.std.proofs.Common.{◌≡◌, ℕ, zero, suc, ◌<◌, ◌≤◌, Bool, true, false, cond, ◌⊎◌, List, [], ◌∷◌, take, is_ok, Some, None, Option, slice_get, sym, refl, ap, ◌∙◌, subst, inl, inr, arith}
 use Rattle.std.proofs.lemmas.Bool.{both_ways, or_cases, or_left, or_right}
 use Rattle.std.proofs.ByRecursion.{All-weaker}
 use Rattle.refusal.specs.Grounds.{Answer}
@@ -27,7 +27,7 @@ use Rattle.protocol.specs.Start.{start}
 use Rattle.protocol.specs.Enter.{enter}
 use Rattle.protocol.specs.Rules.{Said}
 use Rattle.protocol.specs.Call.{Call, Outcome, Meaning, Stamp, Deliver, Find, Drop, Decide, Prepare, Commit, Settle, Reply, Leave, Forge, Lead, Start, Enter, AskAnswer, AskNoOp, acting, meaning}
-use Rattle.protocol.specs.Life.{Life, run, outcomes, Enters, state_at, nth}
+use Rattle.protocol.specs.Life.{Life, run, outcomes, Enters, state_at}
 use Rattle.protocol.specs.Law.{Entered, Signers}
 use Rattle.protocol.proofs.Books.{Grown, grown_refl, book_push}
 use Rattle.protocol.proofs.Signing.{count_of_list, list_of_count, different}
@@ -148,19 +148,14 @@ module _ (u : Setup) (V : Service) where
 
   -- what came of the call in the place k
   pub outcome_at :
-      (k : ℕ) (cs : List Call) (x : State) (c : Call) (o : Outcome) → nth k cs ≡ Some c
-      → nth k (outcomes u V x cs) ≡ Some o
+      (k : ℕ) (cs : List Call) (x : State) (c : Call) (o : Outcome) → slice_get cs k ≡ Some c
+      → slice_get (outcomes u V x cs) k ≡ Some o
       → (meaning u V (run u V x (take k cs)) c).outcome ≡ o
   outcome_at k [] x c o e f = cc
   outcome_at zero (d ∷ cs) x c o e f =
       let same : d ≡ c = cc in
       subst (λ (z : Call). (meaning u V x z).outcome ≡ o) same (cc)
   outcome_at (suc k) (d ∷ cs) x c o e f = outcome_at k cs (meaning u V x d).after c o e f
-
-pub nth_below : {A : Type 0} → (k : ℕ) (xs : List A) (a : A) → nth k xs ≡ Some a → k < length xs
-nth_below k [] a e = cc
-nth_below zero (x ∷ xs) a e = omega arith
-nth_below (suc k) (x ∷ xs) a e = omega (arith, nth_below k xs a e)
 
 -- ---- a life, step by step
 

@@ -1,6 +1,7 @@
 -- Every life keeps the law, where its models keep the invariant and one line agrees with all that is certified at its end.
 use Rattle.std.proofs.Common.{◌≡◌, ℕ, ◌^◌, ◌<◌, ◌≤◌, Bool, true, false, cond, length, is_ok, Ok, Err, refl, arith, rules}
 use Rattle.std.proofs.lemmas.Bool.{lt-ltb, le-leb, leb-true, cond-true}
+use Rattle.std.proofs.lemmas.Option.{slice_get_within}
 use Rattle.refusal.specs.Grounds.{Answer}
 use Rattle.record.specs.Statements.{reply_by, commit_by}
 use Rattle.record.specs.declared.Record.{Record}
@@ -19,7 +20,7 @@ use Rattle.protocol.specs.Steps.{model}
 use Rattle.protocol.proofs.Books.{stamped_below}
 use Rattle.protocol.proofs.Certificates.{Certificates}
 use Rattle.protocol.proofs.Counting.{member, many_mono, Honest}
-use Rattle.protocol.proofs.Entries.{held_on, stamped_on, quorum_of_signers, signers_of_quorum, outcome_at, nth_below}
+use Rattle.protocol.proofs.Entries.{held_on, stamped_on, quorum_of_signers, signers_of_quorum, outcome_at}
 use Rattle.protocol.proofs.Invariant.{Inv, reply_of, commit_of}
 
 -- a quorum stays one
@@ -117,12 +118,12 @@ module _
           yes_no_op = λ k v s _ e. signers_of_yes y k (commit_by 0 v s 1) (no_op_grounds (state_at y k) 16 v s) e;
           told_answer = λ k b v s w a e f.
               let yes = outcome_at y.bench y.service k y.calls (opened y.places) (AskAnswer b v s w a) Yes e f in
-              let below = nth_below k y.calls (AskAnswer b v s w a) e in
+              let below = slice_get_within y.calls k (AskAnswer b v s w a) e in
               answer_agrees k v s w a (omega arith)
               (signers_of_yes y k (reply_by 0 v s w a) (answer_grounds (state_at y k) b v s w) yes);
           told_no_op = λ k b v s e f.
               let yes = outcome_at y.bench y.service k y.calls (opened y.places) (AskNoOp b v s) Yes e f in
-              let below = nth_below k y.calls (AskNoOp b v s) e in
+              let below = slice_get_within y.calls k (AskNoOp b v s) e in
               no_op_agrees k v s (omega arith)
               (signers_of_yes y k (commit_by 0 v s 1) (no_op_grounds (state_at y k) b v s) yes);
         }

@@ -9,7 +9,7 @@
 --   Agrees y line s w a   — the line has an operation at slot s and the no-ops w below it, and a is what the single service answers for the slot along the line
 --   OneLedger y           — the law for the life y
 -- The single service is one service, freshly cleared, that takes the slots from 0 upward and is fed the operations stamped in the life; a no-op of the line and an unstamped slot leave it as it is. It answers for a stamped slot that is no no-op of the line, so a certified answer's slot is one.
-use Rattle.std.specs.Prelude.{◌≡◌, ℕ, ◌%◌, ◌^◌, ◌<◌, ◌≤◌, true, false, ◌≢◌, List, length, take, Some, AllPairs}
+use Rattle.std.specs.Prelude.{◌≡◌, ℕ, ◌%◌, ◌^◌, ◌<◌, ◌≤◌, true, false, ◌≢◌, List, length, take, Some, AllPairs, slice_get}
 use Rattle.std.specs.List.{AllByRecursion}
 use Rattle.record.specs.Statements.{reply_by, commit_by}
 use Rattle.record.specs.declared.Record.{Record}
@@ -19,7 +19,7 @@ use Rattle.protocol.specs.Setup.{replicas, quorum_size}
 use Rattle.protocol.specs.Service.{book, single}
 use Rattle.protocol.specs.State.{opened}
 use Rattle.protocol.specs.Call.{Call, AskAnswer, AskNoOp, Yes, meaning}
-use Rattle.protocol.specs.Life.{Life, Enters, state_at, outcomes_of, nth}
+use Rattle.protocol.specs.Life.{Life, Enters, state_at, outcomes_of}
 
 abbrev pub Entered : Life → ℕ → Record → Type 0
 Entered y k r = Enters y.bench y.service (opened y.places) (take k y.calls) r
@@ -73,7 +73,7 @@ pub record OneLedger (y : Life) : Type 0 where
   pub yes_no_op : (k v s : ℕ) → k ≤ length y.calls → SaysYes y k (AskNoOp 16 v s) → Skipped y k v s
   -- so a caller who is answered yes in the life itself, with a buffer of b bytes, has what agrees with the line
   pub told_answer :
-      (k b v s w a : ℕ) → nth k y.calls ≡ Some (AskAnswer b v s w a) → nth k (outcomes_of y) ≡ Some Yes
+      (k b v s w a : ℕ) → slice_get y.calls k ≡ Some (AskAnswer b v s w a) → slice_get (outcomes_of y) k ≡ Some Yes
       → Agrees y line s w a
   pub told_no_op :
-      (k b v s : ℕ) → nth k y.calls ≡ Some (AskNoOp b v s) → nth k (outcomes_of y) ≡ Some Yes → bit line s ≡ true
+      (k b v s : ℕ) → slice_get y.calls k ≡ Some (AskNoOp b v s) → slice_get (outcomes_of y) k ≡ Some Yes → bit line s ≡ true

@@ -5,8 +5,7 @@
 --   Life               — a life: the bench, whose open was granted, its service, the free places of its register at the opening, and the calls
 --   state_at y k       — the state of the life y after its open and k calls
 --   outcomes_of y      — what came of the calls of the life y, one after the other
---   nth k xs           — the element of the list xs at the place k, from 0, if there is one
-use Rattle.std.specs.Prelude.{◌≡◌, ℕ, zero, suc, true, ◌⊎◌, List, [], ◌∷◌, take, Some, None, Ok, Option}
+use Rattle.std.specs.Prelude.{◌≡◌, ℕ, true, ◌⊎◌, List, [], ◌∷◌, take, Some, Ok}
 use Rattle.record.specs.declared.Record.{Record}
 use Rattle.protocol.specs.Setup.{Setup}
 use Rattle.protocol.specs.Service.{Service}
@@ -40,8 +39,3 @@ state_at y k = run y.bench y.service (opened y.places) (take k y.calls)
 
 abbrev pub outcomes_of : Life → List Outcome
 outcomes_of y = outcomes y.bench y.service (opened y.places) y.calls
-
-abbrev pub nth : {A : Type 0} → ℕ → List A → Option A
-nth k [] = None
-nth zero (x ∷ xs) = Some x
-nth (suc k) (x ∷ xs) = nth k xs
