@@ -1,31 +1,29 @@
 -- A bench as its rules see it, and what a call makes of it.
 -- Throughout, held and free say what a register of the bench's type holds, and how many free places it has.
 --   service_of fresh next answer s  — a service in the state s, by what it answers to an operation after those that it was fed since it was cleared
+--   status_state z s n              — the state of a bench with the status z, over a register with the set s and n free places
 --   state_of held free b            — the state of the bench b
 --   Does held free b a r c          — a call that is the action a, given who the replicas are and the state of the bench, answered r on the bench b and left the bench c; refused, it left the register as it was
 --   Opened held free u r b          — the bench b is u, newly opened over the register r
-use Rattle.std.specs.Prelude.{◌≡◌, ℕ, false, [], replicate, is_ok}
+use Rattle.std.specs.Prelude.{◌≡◌, ℕ, false, is_ok}
 use Rattle.refusal.specs.Grounds.{Answer}
 use Rattle.service.specs.Operations.{after}
 use Rattle.register.specs.Sets.{Set}
 use Rattle.protocol.specs.Setup.{Setup}
 use Rattle.protocol.specs.Service.{Service}
-use Rattle.protocol.specs.State.{State, Action, answer_to, state_after}
-use Rattle.replica.specs.Replicas.{still}
+use Rattle.protocol.specs.State.{State, Action, opened_over, answer_to, state_after}
 use Rattle.bench.specs.Setups.{setup_of}
 use Rattle.bench.specs.declared.open.Bench.{Bench}
+use Rattle.bench.specs.declared.status.Status.{Status}
 
 abbrev pub service_of : {A : Type 0} → (A → A) → (A → ℕ → A) → (A → ℕ → ℕ) → A → Service
 service_of fresh next answer s ops op = answer (after next (fresh s) ops) op
 
+abbrev pub status_state : Status → Set → ℕ → State
+status_state z s n = record { stamped = z.operations.items; held = s; free = n; replicas = z.replicas }
+
 abbrev pub state_of : {R S : Type 0} → (R → Set) → (R → ℕ) → Bench R S → State
-state_of held free b =
-    record {
-      stamped = b.status.operations.items;
-      held = held b.register.now;
-      free = free b.register.now;
-      replicas = b.status.replicas;
-    }
+state_of held free b = status_state b.status (held b.register.now) (free b.register.now)
 
 pub record Does
     {R S : Type 0} (held : R → Set) (free : R → ℕ) (b : Bench R S) (a : Setup → State → Action) (r : Answer) (c : Bench R S) : Type 0 where
@@ -43,4 +41,4 @@ pub record Opened {R S : Type 0} (held : R → Set) (free : R → ℕ) (u : Setu
   pub setup : setup_of b.setup ≡ u
   pub register : b.register.now ≡ r
   -- nothing is stamped, and every replica is still
-  pub state : state_of held free b ≡ record { stamped = []; held = held r; free = free r; replicas = replicate 16 still }
+  pub state : state_of held free b ≡ opened_over (held r) (free r)

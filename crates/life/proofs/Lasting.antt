@@ -1,5 +1,5 @@
 -- A life that was run to its end.
-use Rattle.std.proofs.Common.{◌≡◌, ℕ, zero, suc, ◌<◌, ◌≤◌, true, false, ◌≢◌, eqb, List, [], ◌∷◌, length, get_or, replicate, take, Ok, sym, refl, ap, ◌∙◌, subst, arith}
+use Rattle.std.proofs.Common.{◌≡◌, ℕ, zero, suc, ◌<◌, ◌≤◌, true, false, ◌≢◌, eqb, List, [], ◌∷◌, length, get_or, take, Ok, sym, refl, ap, ◌∙◌, subst, arith}
 use Rattle.std.proofs.lemmas.List.{length-map, length-take-le}
 use Rattle.std.proofs.lemmas.Bool.{ne_eqb}
 use Rattle.std.proofs.lemmas.Option.{slice_get_within}
@@ -9,10 +9,9 @@ use Rattle.record.specs.Statements.{reply_by, commit_by}
 use Rattle.record.specs.declared.Record.{Record}
 use Rattle.register.specs.Sets.{Set, nothing, Emptiness}
 use Rattle.quorum.specs.Quorums.{said, signed_by}
-use Rattle.replica.specs.Replicas.{still}
 use Rattle.protocol.specs.Setup.{Setup, replicas, quorum_size}
 use Rattle.protocol.specs.Service.{Service}
-use Rattle.protocol.specs.State.{State, opened}
+use Rattle.protocol.specs.State.{State, opened, opened_over}
 use Rattle.protocol.specs.Open.{open_grounds}
 use Rattle.protocol.specs.Call as rules
 use Rattle.protocol.specs.Life.{Life, run, state_at}
@@ -115,14 +114,12 @@ module _ (u : Setup) (V : Service) (n : ℕ) (o : open_grounds u true ≡ Ok tt)
 
   lived :
       (s : Set) → Emptiness s true
-      → Underway u V (record { stamped = []; held = s; free = n; replicas = replicate 16 still }) (calls_of before)
-      (length after) after z
+      → Underway u V (opened_over s n) (calls_of before) (length after) after z
       → Lived (life_of u V n before o) before after z
   lived s E U =
       lived_from_opened
       (subst
-      (λ h. Underway u V (record { stamped = []; held = h; free = n; replicas = replicate 16 still }) (calls_of before)
-      (length after) after z)
+      (λ h. Underway u V (opened_over h n) (calls_of before) (length after) after z)
       (empty_set s E) U)
 
 -- what is known once every call was made on a new bench
@@ -141,7 +138,7 @@ module _
         let V = service_of fresh next answer in
         let end = λ (v : Setup) (q : S) (x : State).
         Underway v (V (state q)) x (calls_of before) (length after) after z in
-        let opening : State = record { stamped = []; held = held r; free = free r; replicas = replicate 16 still } in
+        let opening = opened_over (held r) (free r) in
         let here =
         subst (Underway (setup_of b.setup) (V (state b.service.now)) (state_of held free b) (calls_of before) (length after) after) h U in
         let over = subst (end (setup_of b.setup) b.service.now) O.state here in

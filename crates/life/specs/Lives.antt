@@ -5,7 +5,6 @@
 --   Lived y b a z             — the life y was run: the turns b became the turns a, and z is the state at its end
 --   life_of u V n ts o        — the life of a bench u with the service V, over an empty register with n free places, with the calls of the turns ts; o says that its open is granted
 --   Ran u V s n b a z         — a bench u with the service V was opened over a register with the set s and n free places, and lived: the turns b became the turns a, and z is the state at the end
---   status_state z s n        — the state of a bench with the status z, over a register with the set s and n free places
 --   Runs u V s n b r a s' n'  — the life of a bench u with the service V, over a register with the set s and n free places, was run: the answer is r, the turns b became a, and the register has the set s' and n' free places
 -- The law of the life is OneLedger, in specs/Law.antt of protocol; the rules as a relation are in its specs/Steps.antt and specs/Rules.antt.
 use Rattle.std.specs.Prelude.{◌≡◌, ℕ, ◌≤◌, Bool, true, List, length, take, Some, Ok, Err, Result, slice_get, slice_index}
@@ -21,6 +20,7 @@ use Rattle.protocol.specs.Call as rules
 use Rattle.protocol.specs.Life.{Life, state_at, outcomes_of}
 use Rattle.protocol.specs.Law.{Signers, OneLedger}
 use Rattle.protocol.specs.Steps.{KeepsRules, RefusesOwnOrFull}
+use Rattle.bench.specs.States.{status_state}
 use Rattle.bench.specs.declared.status.Status.{Status}
 use Rattle.life.specs.Calls.{call_of, calls_of, told_in}
 use Rattle.life.specs.declared.call.Outcome.TheVariants.{Yes}
@@ -64,9 +64,6 @@ pub record Ran
   pub empty : Emptiness s true
   pub opens : open_grounds u true ≡ Ok tt
   pub lived : Lived (life_of u V n before opens) before after z
-
-abbrev pub status_state : Status → Set → ℕ → State
-status_state z s n = record { stamped = z.operations.items; held = s; free = n; replicas = z.replicas }
 
 abbrev pub Runs : Setup → Service → Set → ℕ → List Turn → Result Status Refusal → List Turn → Set → ℕ → Type 0
 Runs u V s n before (Ok z) after s' n' = Ran u V s n before after (status_state z s' n')

@@ -1,10 +1,10 @@
 //! Running a life.
 ghost use Rattle.std.specs.Prelude.{◌≡◌, IfErr, length};
 ghost use Rattle.bench.specs.Setups.{setup_of};
-ghost use Rattle.bench.specs.States.{service_of, state_of};
+ghost use Rattle.bench.specs.States.{service_of, state_of, status_state};
 ghost use Rattle.life.specs.Calls.{calls_of};
 ghost use Rattle.life.specs.Making.{Keeps, Underway, LivesOn};
-ghost use Rattle.life.specs.Lives.{status_state, Runs};
+ghost use Rattle.life.specs.Lives.{Runs};
 
 use crate::call::Turn;
 use crate::make::make;

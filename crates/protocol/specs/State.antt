@@ -2,7 +2,8 @@
 --   State               — the operations stamped, that of slot 0 first; the statements held and the free places of the register; the replicas by number
 --   replica_at x i      — replica i
 --   with_replica x i r  — the replicas, with r for replica i
---   opened n            — the state after a granted open, where the register has n free places: nothing stamped, nothing held, every replica still
+--   opened_over s n     — a state in which nothing is stamped, the set s is held, n places are free and every replica is still
+--   opened n            — the state after a granted open, where the register has n free places: that one, with nothing held
 --   Action              — what a call that changes a bench comes to: its grounds in order but for the register's own, the statement that it says, and what a grant leaves of operations and replicas
 --   entry_answer x o    — what the register answers where the statement o, if any, is entered
 --   answer_to x a       — what the call a answers: the first of its grounds, then the register's
@@ -30,8 +31,11 @@ replica_at x i = slice_index_or x.replicas i still
 abbrev pub with_replica : State → ℕ → Replica → List Replica
 with_replica x i r = slice_set x.replicas i r
 
+abbrev pub opened_over : Set → ℕ → State
+opened_over s n = record { stamped = []; held = s; free = n; replicas = replicate 16 still }
+
 abbrev pub opened : ℕ → State
-opened n = record { stamped = []; held = nothing; free = n; replicas = replicate 16 still }
+opened n = opened_over nothing n
 
 pub record Action : Type 0 where
   pub grounds : Answer
