@@ -16,7 +16,7 @@ use Rattle.protocol.specs.State.{State}
 use Rattle.protocol.specs.Grounds.{reached}
 use Rattle.protocol.specs.Call as rules
 use Rattle.bench.specs.Certificates.{Written, Certifies, asked}
-use Rattle.life.specs.Calls.{told, certified}
+use Rattle.life.specs.Calls.{told, certificate_outcome}
 use Rattle.life.specs.Making.{Backed, Makes, Backs}
 use Rattle.life.specs.declared.call.Outcome.{Outcome}
 use Rattle.life.specs.declared.call.Outcome.TheVariants.{Yes}
@@ -87,15 +87,15 @@ module _ (n q : ℕ) (p : ℕ → Bool) where
             (blank_drop m zeros blank_zeros)),
       )
 
-told_certified : (a : Result Bool Refusal) (w : List ℕ) → told (certified a w) ≡ asked a
-told_certified (Ok true) w = refl
-told_certified (Ok false) w = refl
-told_certified (Err e) w = refl
+told_of_certificate : (a : Result Bool Refusal) (w : List ℕ) → told (certificate_outcome a w) ≡ asked a
+told_of_certificate (Ok true) w = refl
+told_of_certificate (Ok false) w = refl
+told_of_certificate (Err e) w = refl
 
-yes_certified : (a : Result Bool Refusal) (w v : List ℕ) → certified a w ≡ Yes v → (a ≡ Ok true) × (w ≡ v)
-yes_certified (Ok true) w v e = (refl, cc)
-yes_certified (Ok false) w v e = cc
-yes_certified (Err f) w v e = cc
+yes_of_certificate : (a : Result Bool Refusal) (w v : List ℕ) → certificate_outcome a w ≡ Yes v → (a ≡ Ok true) × (w ≡ v)
+yes_of_certificate (Ok true) w v e = (refl, cc)
+yes_of_certificate (Ok false) w v e = cc
+yes_of_certificate (Err f) w v e = cc
 
 -- sixteen bytes are lent exactly where there is room for sixteen
 room_lent : (room m : ℕ) → m ≡ min room 16 → nat_le 16 (length (take m zeros)) ≡ nat_le 16 room
@@ -106,20 +106,20 @@ pub makes_certificate :
     {u : Setup} {V : Service} {x : State} {call : rules.Call} {r : Record} {m : ℕ} {a : Result Bool Refusal} {c : List ℕ}
     {o : Outcome} (g : Answer) (room : ℕ)
     → Certifies u x (unless (nat_le 16 (length (take m zeros))) BufferLength 0 g) r (take m zeros) a c
-    → m ≡ min room 16 → o ≡ certified a (c ++ drop m zeros)
+    → m ≡ min room 16 → o ≡ certificate_outcome a (c ++ drop m zeros)
     → rules.meaning u V x call ≡ rules.asking x (unless (nat_le 16 room) BufferLength 0 g) (reached u x r)
     → ((w : List ℕ) → Backed (replicas u) (quorum_size u) (said x.held r) w → Backs u x call w) → Makes u V x call o x
 makes_certificate {u} {V} {x} {call} {r} {m} {a} {c} {o} g room C e f h b =
     record {
       outcome =
           ap told f
-          ∙ told_certified a (c ++ drop m zeros)
+          ∙ told_of_certificate a (c ++ drop m zeros)
           ∙ C.outcome
           ∙ ap (λ (t : Bool). rules.certificate (unless t BufferLength 0 g) (reached u x r)) (room_lent room m e)
           ∙ sym (ap (λ (y : rules.Meaning). y.outcome) h);
       after = sym (ap (λ (y : rules.Meaning). y.after) h);
       witnesses =
-          λ w y. let s = yes_certified a (c ++ drop m zeros) w (sym f ∙ y) in
+          λ w y. let s = yes_of_certificate a (c ++ drop m zeros) w (sym f ∙ y) in
           b w
           (subst (Backed (replicas u) (quorum_size u) (said x.held r)) s.1
           (backed_lent (replicas u) (quorum_size u) (said x.held r) m c (C.yes s.0)));

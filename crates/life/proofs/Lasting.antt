@@ -23,7 +23,7 @@ use Rattle.bench.specs.States.{service_of, state_of, Opened}
 use Rattle.bench.specs.declared.open.Bench.{Bench}
 use Rattle.bench.specs.declared.setup.Setup as code
 use Rattle.life.specs.Calls.{call_of, calls_of}
-use Rattle.life.specs.Making.{LivesOn, Backed, Backs, Underway}
+use Rattle.life.specs.Making.{RunsIfOpened, Backed, Backs, Underway}
 use Rattle.life.specs.Lives.{WitnessesOf, Ran, Witnessed, Lived, life_of}
 use Rattle.life.specs.declared.call.Turn.{Turn}
 
@@ -127,14 +127,14 @@ module _
     {R S A : Type 0} (held : R → Set) (free : R → ℕ) (state : S → A) (fresh : A → A) (next : A → ℕ → A)
     (answer : A → ℕ → ℕ)
   where
-    pub lives_on :
+    pub runs_if_opened :
         (s : code.Setup) (r : R) (t : S) (b c : Bench R S) (before after : List Turn) (z : State)
         → Opened held free s r b → b.service.now ≡ t
         → Underway (setup_of b.setup) (service_of fresh next answer (state b.service.now)) (state_of held free b)
         (calls_of before) (length after) after (state_of held free c)
         → state_of held free c ≡ z
-        → LivesOn (setup_of s) (service_of fresh next answer (state t)) (held r) (free r) before after z
-    lives_on s r t b c before after z O f U h =
+        → RunsIfOpened (setup_of s) (service_of fresh next answer (state t)) (held r) (free r) before after z
+    runs_if_opened s r t b c before after z O f U h =
         let V = service_of fresh next answer in
         let end = λ (v : Setup) (q : S) (x : State).
         Underway v (V (state q)) x (calls_of before) (length after) after z in
@@ -147,10 +147,10 @@ module _
         record { lived = λ E o. lived (setup_of s) (V (state t)) (free r) o before after z (held r) E checked }
 
 -- and of what is known then, where the bench was checked
-pub ran_on :
+pub ran :
     (u v : Setup) (V : Service) (s : Set) (n : ℕ) (before after : List Turn) (z : State)
-    → LivesOn v V s n before after z → v ≡ u → Emptiness s true → open_grounds u true ≡ Ok tt
+    → RunsIfOpened v V s n before after z → v ≡ u → Emptiness s true → open_grounds u true ≡ Ok tt
     → Ran u V s n before after z
-ran_on u v V s n before after z L e E o =
-    let M = subst (λ w. LivesOn w V s n before after z) e L in
+ran u v V s n before after z L e E o =
+    let M = subst (λ w. RunsIfOpened w V s n before after z) e L in
     record { empty = E; opens = o; lived = M.lived E o }

@@ -1,10 +1,10 @@
 -- Calls, turns and outcomes of code, as the rules have them.
---   call_of c             — the call c, as the rules have it
---   calls_of ts           — the calls of the turns ts, in order
---   told o                — the outcome o, without its witnesses
---   told_in t             — the outcome that stands in the turn t, if one does
---   granted_or_refused a  — a grant or a refusal as an outcome
---   certified a w         — the outcome of a certificate call that answered a and left the bytes w
+--   call_of c                — the call c, as the rules have it
+--   calls_of ts              — the calls of the turns ts, in order
+--   told o                   — the outcome o, without its witnesses
+--   told_in t                — the outcome that stands in the turn t, if one does
+--   granted_or_refused a     — a grant or a refusal as an outcome
+--   certificate_outcome a w  — the outcome of a certificate call that answered a and left the bytes w
 use Rattle.std.specs.Prelude.{ℕ, Bool, true, false, List, map, Ok, Err, Option, Result, option_map}
 use Rattle.refusal.specs.Grounds.{Answer}
 use Rattle.refusal.specs.declared.Refusal.{Refusal}
@@ -49,7 +49,7 @@ abbrev pub granted_or_refused : Answer → Outcome
 granted_or_refused (Ok _) = Granted
 granted_or_refused (Err e) = Refused e
 
-abbrev pub certified : Result Bool Refusal → List ℕ → Outcome
-certified (Ok true) w = Yes w
-certified (Ok false) w = No
-certified (Err e) w = Refused e
+abbrev pub certificate_outcome : Result Bool Refusal → List ℕ → Outcome
+certificate_outcome (Ok true) w = Yes w
+certificate_outcome (Ok false) w = No
+certificate_outcome (Err e) w = Refused e

@@ -1,7 +1,7 @@
 -- What running a life of a bench comes to.
 --   WitnessesOf y k r w       — the bytes w are q different replicas, under each of which one of the first k calls of the life y entered the statement r, and then zeros
 --   Witnessed y k c w         — the bytes w are such witnesses of what the certificate call c asks for, in the place k of the life y; no other call has witnesses
---   Came y k t                — the turn t, in the place k of the life y, has what came of its call
+--   CameOf y k t              — the turn t, in the place k of the life y, has what came of its call
 --   Lived y b a z             — the life y was run: the turns b became the turns a, and z is the state at its end
 --   life_of u V n ts o        — the life of a bench u with the service V, over an empty register with n free places, with the calls of the turns ts; o says that its open is granted
 --   Ran u V s n b a z         — a bench u with the service V was opened over a register with the set s and n free places, and lived: the turns b became the turns a, and z is the state at the end
@@ -36,7 +36,7 @@ Witnessed y k (rules.AskAnswer b v s w a) ws = WitnessesOf y k (reply_by 0 v s w
 Witnessed y k (rules.AskNoOp b v s) ws = WitnessesOf y k (commit_by 0 v s 1) ws
 Witnessed y k c ws = ⊥
 
-pub record Came (y : Life) (k : ℕ) (t : Turn) : Type 0 where
+pub record CameOf (y : Life) (k : ℕ) (t : Turn) : Type 0 where
   -- the outcome that the rules give
   pub outcome : told_in t ≡ slice_get (outcomes_of y) k
   -- and, where it is yes, witnesses
@@ -46,7 +46,7 @@ pub record Lived (y : Life) (before after : List Turn) (z : State) : Type 0 wher
   -- the calls are as they were
   pub calls : calls_of after ≡ calls_of before
   -- each turn has what came of its call
-  pub came : (k : ℕ) (t : Turn) → slice_get after k ≡ Some t → Came y k t
+  pub came : (k : ℕ) (t : Turn) → slice_get after k ≡ Some t → CameOf y k t
   -- the bench ends in the state to which the rules bring it
   pub state : z ≡ state_at y (length y.calls)
   -- every call of it keeps the rules of the replicas, and is refused on grounds of its own or since the register is full

@@ -1,11 +1,11 @@
 -- Calls while a life runs: what making one comes to, and what is known once the first of them are made.
---   Backed n q p w            — w has at least q numbers; the first q are different, are below n and pass the test p, and the others are 0
---   Backs u x c w             — the bytes w are a quorum that said what the certificate call c asks for, in the state x of a bench u; no other call has such
---   Makes u V x c o y         — the call c was made on a bench u with the service V in the state x; o came of it, and y is the state then
---   Keeps kind_of b c         — the bench c has the replicas of the bench b, the register and the service that were lent to it, and a service of the same kind
---   Made u V x cs j t         — the turn t has what came of the call in the place j of the calls cs, which were made in turn from the state x
---   Underway u V x cs k ts y  — of the turns ts, with the calls cs, the first k were made from the state x, and y is the state then
---   LivesOn u V s n b a z     — on a new bench u with the service V, over a register with the set s and n free places, the turns b became the turns a, and z is the state at the end: where the open is granted, that is the life
+--   Backed n q p w              — w has at least q numbers; the first q are different, are below n and pass the test p, and the others are 0
+--   Backs u x c w               — the bytes w are a quorum that said what the certificate call c asks for, in the state x of a bench u; no other call has such
+--   Makes u V x c o y           — the call c was made on a bench u with the service V in the state x; o came of it, and y is the state then
+--   Keeps kind_of b c           — the bench c has the replicas of the bench b, the register and the service that were lent to it, and a service of the same kind
+--   Made u V x cs j t           — the turn t has what came of the call in the place j of the calls cs, which were made in turn from the state x
+--   Underway u V x cs k ts y    — of the turns ts, with the calls cs, the first k were made from the state x, and y is the state then
+--   RunsIfOpened u V s n b a z  — on a new bench u with the service V, over a register with the set s and n free places, the turns b became the turns a, and z is the state at the end: where the open is granted, that is the life
 use Rattle.std.specs.Prelude.{◌≡◌, ℕ, ◌<◌, ◌≤◌, Bool, true, List, length, take, Some, Ok, slice_get}
 use Rattle.record.specs.Statements.{reply_by, commit_by}
 use Rattle.register.specs.Sets.{Set, Emptiness}
@@ -52,7 +52,7 @@ pub record Underway
   pub made : (j : ℕ) (t : Turn) → j < k → slice_get ts j ≡ Some t → Made u V x cs j t
   pub state : y ≡ run u V x (take k cs)
 
-pub record LivesOn
+pub record RunsIfOpened
     (u : Setup) (V : Service) (s : Set) (n : ℕ) (before after : List Turn) (z : State) : Type 0 where
   pub lived :
       Emptiness s true → (o : open_grounds u true ≡ Ok tt) → Lived (life_of u V n before o) before after z

@@ -3,7 +3,7 @@ ghost use Rattle.std.specs.Prelude.{◌≡◌};
 ghost use Rattle.protocol.specs.Call.{AskAnswer, AskNoOp};
 ghost use Rattle.bench.specs.Setups.{setup_of};
 ghost use Rattle.bench.specs.States.{service_of, state_of};
-ghost use Rattle.life.specs.Calls.{call_of, certified};
+ghost use Rattle.life.specs.Calls.{call_of, certificate_outcome};
 ghost use Rattle.life.specs.Making.{Makes, Keeps};
 
 use crate::call::{Call, Outcome};
@@ -14,8 +14,8 @@ use register::Register;
 use service::Service;
 
 // The outcome of a certificate call that answered so and left these bytes in the runner's buffer.
-fn certified(answer: Result<bool, Refusal>, witnesses: [u8; SIGNERS]) -> Outcome
-    ensures { result ≡ certified answer witnesses }
+fn certificate_outcome(answer: Result<bool, Refusal>, witnesses: [u8; SIGNERS]) -> Outcome
+    ensures { result ≡ certificate_outcome answer witnesses }
 {
     match answer {
         Ok(true) => Outcome::Yes(witnesses),
@@ -38,7 +38,7 @@ fn ask_answer<R: Register, S: Service>(
     let mut witnesses = [0; SIGNERS];
     let offered = &mut witnesses[..room.min(SIGNERS as u64) as usize];
     let answer = bench.answer(offered, view, slot, word, value);
-    certified(answer, witnesses)
+    certificate_outcome(answer, witnesses)
 }
 
 // Asks whether a no-op is certified, likewise.
@@ -53,7 +53,7 @@ fn ask_no_op<R: Register, S: Service>(
     let mut witnesses = [0; SIGNERS];
     let offered = &mut witnesses[..room.min(SIGNERS as u64) as usize];
     let answer = bench.no_op(offered, view, slot);
-    certified(answer, witnesses)
+    certificate_outcome(answer, witnesses)
 }
 
 // Makes a call.

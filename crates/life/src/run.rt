@@ -3,7 +3,7 @@ ghost use Rattle.std.specs.Prelude.{◌≡◌, IfErr, length};
 ghost use Rattle.bench.specs.Setups.{setup_of};
 ghost use Rattle.bench.specs.States.{service_of, state_of, status_state};
 ghost use Rattle.life.specs.Calls.{calls_of};
-ghost use Rattle.life.specs.Making.{Keeps, Underway, LivesOn};
+ghost use Rattle.life.specs.Making.{Keeps, Underway, RunsIfOpened};
 ghost use Rattle.life.specs.Lives.{Runs};
 
 use crate::call::Turn;
@@ -30,7 +30,7 @@ fn live<R: Register, S: Service>(
     service: &mut S,
     turns: &mut [Turn<'_>],
 ) -> Status
-    ensures life { LivesOn (setup_of setup) (service_of S.fresh S.next S.answer (S.state service.old)) (R.held register.old) (R.free register.old) turns.old turns.new (status_state result (R.held register.new) (R.free register.new)) }
+    ensures life { RunsIfOpened (setup_of setup) (service_of S.fresh S.next S.answer (S.state service.old)) (R.held register.old) (R.free register.old) turns.old turns.new (status_state result (R.held register.new) (R.free register.new)) }
     ensures kind { S.fresh (S.state service.new) ≡ S.fresh (S.state service.old) }
 {
     let mut bench = Bench::open(setup, register, service);
@@ -42,7 +42,7 @@ fn live<R: Register, S: Service>(
 /// it is written into the turns; the bench is ended, and what it kept is handed out.
 ///
 /// If the open is refused, no call is made, and register and turns are as they were.
-#[tactic(auto, using(crate::proofs::Lasting::ran_on))]
+#[tactic(auto, using(crate::proofs::Lasting::ran))]
 pub fn run_life<R: Register, S: Service>(
     f: u64,
     foreign: u64,

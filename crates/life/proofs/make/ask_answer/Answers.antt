@@ -5,4 +5,4 @@ use Rattle.life.proofs.make.ask_answer.Goals as goal
 
 pub returns : goal.returns
 returns g c =
-    makes_certificate _ c.args.room c.answer-answer.ensures c.min.ensures c.certified.ensures (search rules) (search rules)
+    makes_certificate _ c.args.room c.answer-answer.ensures c.min.ensures c.certificate_outcome.ensures (search rules) (search rules)
