@@ -1,6 +1,6 @@
 //! A bench, and opening one.
 ghost use Rattle.std.specs.Prelude.{◌≡◌, IfOk, MatchResult};
-ghost use Rattle.bench.specs.Setups.{setup_of, Granted, Refused};
+ghost use Rattle.bench.specs.Setups.{setup_of, OpenGranted, OpenRefused};
 ghost use Rattle.bench.specs.States.{Opened};
 
 use crate::setup::Setup;
@@ -48,7 +48,7 @@ impl<'a, R: Register, S: Service> Bench<'a, R, S> {
         register: &'a mut R,
         service: &'a mut S,
     ) -> Result<Bench<'a, R, S>, Refusal>
-        ensures opens { MatchResult result (λ b. Granted (record { f = f; mask = foreign }) (R.held register.old) × Opened R.held R.free (record { f = f; mask = foreign }) register.old b) (λ e. Refused (record { f = f; mask = foreign }) (R.held register.old) e) }
+        ensures opens { MatchResult result (λ b. OpenGranted (record { f = f; mask = foreign }) (R.held register.old) × Opened R.held R.free (record { f = f; mask = foreign }) register.old b) (λ e. OpenRefused (record { f = f; mask = foreign }) (R.held register.old) e) }
         ensures service { IfOk result (λ b. b.service.now ≡ service.old) }
         ensures lent_register { IfOk result (λ b. b.register.ghost_name ≡ register.entry.ghost_name) }
         ensures lent_service { IfOk result (λ b. b.service.ghost_name ≡ service.entry.ghost_name) }

@@ -1,6 +1,6 @@
 //! The examples of docs/BENCH.md: a grant of water, certified by three replicas of four.
 use allotment::{Allotment, Operation};
-use bench::{Bench, Setup};
+use bench::Bench;
 use life::{Call, Outcome, Turn, run_life};
 use record::Record;
 use refusal::{Ground, Refusal};
@@ -17,8 +17,7 @@ fn granted_by_calls(operation: u64, witnesses: &mut [u8]) -> Result<bool, Refusa
     let mut places = [Record::default(); 8];
     let mut table = Table::new(&mut places);
     let mut allotment = Allotment::new();
-    let setup = Setup::check(1, 0b1000, &table)?;
-    let mut bench = Bench::open(setup, &mut table, &mut allotment);
+    let mut bench = Bench::open(1, 0b1000, &mut table, &mut allotment)?;
     bench.stamp(operation)?;
     for replica in 0..3 {
         bench.deliver(replica, 0)?;

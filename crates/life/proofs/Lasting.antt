@@ -18,12 +18,11 @@ use Rattle.protocol.specs.Life.{Life, run, state_at}
 use Rattle.protocol.proofs.Entries.{entered_of_held}
 use Rattle.protocol.proofs.Signing.{same_number}
 use Rattle.protocol.proofs.Ledger.{one_ledger, keeps_rules, refuses_own_or_full}
-use Rattle.bench.specs.Setups.{setup_of}
+use Rattle.bench.specs.Setups.{setup_of, OpenGranted}
 use Rattle.bench.specs.States.{service_of, state_of, Opened}
 use Rattle.bench.specs.declared.open.Bench.{Bench}
-use Rattle.bench.specs.declared.setup.Setup as code
 use Rattle.life.specs.Calls.{call_of, calls_of}
-use Rattle.life.specs.Making.{RunsIfOpened, Backed, Backs, Underway}
+use Rattle.life.specs.Making.{Backed, Backs, Underway}
 use Rattle.life.specs.Lives.{WitnessesOf, Ran, Witnessed, Lived, life_of}
 use Rattle.life.specs.declared.call.Turn.{Turn}
 
@@ -127,14 +126,14 @@ module _
     {R S A : Type 0} (held : R → Set) (free : R → ℕ) (state : S → A) (fresh : A → A) (next : A → ℕ → A)
     (answer : A → ℕ → ℕ)
   where
-    pub runs_if_opened :
-        (s : code.Setup) (r : R) (t : S) (b c : Bench R S) (before after : List Turn) (z : State)
-        → Opened held free s r b → b.service.now ≡ t
+    pub ran :
+        (u : Setup) (r : R) (t : S) (b c : Bench R S) (before after : List Turn) (z : State)
+        → OpenGranted u (held r) → Opened held free u r b → b.service.now ≡ t
         → Underway (setup_of b.setup) (service_of fresh next answer (state b.service.now)) (state_of held free b)
         (calls_of before) (length after) after (state_of held free c)
         → state_of held free c ≡ z
-        → RunsIfOpened (setup_of s) (service_of fresh next answer (state t)) (held r) (free r) before after z
-    runs_if_opened s r t b c before after z O f U h =
+        → Ran u (service_of fresh next answer (state t)) (held r) (free r) before after z
+    ran u r t b c before after z G O f U h =
         let V = service_of fresh next answer in
         let end = λ (v : Setup) (q : S) (x : State).
         Underway v (V (state q)) x (calls_of before) (length after) after z in
@@ -143,14 +142,5 @@ module _
         subst (Underway (setup_of b.setup) (V (state b.service.now)) (state_of held free b) (calls_of before) (length after) after) h U in
         let over = subst (end (setup_of b.setup) b.service.now) O.state here in
         let fed = subst (λ q. end (setup_of b.setup) q opening) f over in
-        let checked = subst (λ v. end v t opening) (ap setup_of O.setup) fed in
-        record { lived = λ E o. lived (setup_of s) (V (state t)) (free r) o before after z (held r) E checked }
-
--- and of what is known then, where the bench was checked
-pub ran :
-    (u v : Setup) (V : Service) (s : Set) (n : ℕ) (before after : List Turn) (z : State)
-    → RunsIfOpened v V s n before after z → v ≡ u → Emptiness s true → open_grounds u true ≡ Ok tt
-    → Ran u V s n before after z
-ran u v V s n before after z L e E o =
-    let M = subst (λ w. RunsIfOpened w V s n before after z) e L in
-    record { empty = E; opens = o; lived = M.lived E o }
+        let checked = subst (λ v. end v t opening) O.setup fed in
+        record { granted = G; lived = lived u (V (state t)) (free r) G.grounds before after z (held r) G.empty checked }

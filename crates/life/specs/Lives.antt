@@ -7,11 +7,11 @@
 --   Ran u V s n b a z         — a bench u with the service V was opened over a register with the set s and n free places, and lived: the turns b became the turns a, and z is the state at the end
 --   Runs u V s n b r a s' n'  — the life of a bench u with the service V, over a register with the set s and n free places, was run: the answer is r, the turns b became a, and the register has the set s' and n' free places
 -- The law of the life is OneLedger, in specs/Law.antt of protocol; the rules as a relation are in its specs/Steps.antt and specs/Rules.antt.
-use Rattle.std.specs.Prelude.{◌≡◌, ℕ, ◌≤◌, Bool, true, List, length, take, Some, Ok, Err, Result, slice_get, slice_index}
+use Rattle.std.specs.Prelude.{◌≡◌, ℕ, ◌≤◌, true, List, length, take, Some, Ok, Err, Result, slice_get, slice_index}
 use Rattle.refusal.specs.declared.Refusal.{Refusal}
 use Rattle.record.specs.Statements.{reply_by, commit_by}
 use Rattle.record.specs.declared.Record.{Record}
-use Rattle.register.specs.Sets.{Set, Emptiness}
+use Rattle.register.specs.Sets.{Set}
 use Rattle.protocol.specs.Setup.{Setup, quorum_size}
 use Rattle.protocol.specs.Service.{Service}
 use Rattle.protocol.specs.State.{State}
@@ -21,6 +21,7 @@ use Rattle.protocol.specs.Life.{Life, state_at, outcomes_of}
 use Rattle.protocol.specs.Law.{Signers, OneLedger}
 use Rattle.protocol.specs.Steps.{KeepsRules, RefusesOwnOrFull}
 use Rattle.bench.specs.States.{status_state}
+use Rattle.bench.specs.Setups.{OpenGranted, OpenRefused}
 use Rattle.bench.specs.declared.status.Status.{Status}
 use Rattle.life.specs.Calls.{call_of, calls_of, told_in}
 use Rattle.life.specs.declared.call.Outcome.TheVariants.{Yes}
@@ -61,11 +62,9 @@ life_of u V n ts o = record { bench = u; service = V; places = n; calls = calls_
 pub record Ran
     (u : Setup) (V : Service) (s : Set) (n : ℕ) (before after : List Turn) (z : State) : Type 0 where
   -- the register was empty, and the open was granted
-  pub empty : Emptiness s true
-  pub opens : open_grounds u true ≡ Ok tt
-  pub lived : Lived (life_of u V n before opens) before after z
+  pub granted : OpenGranted u s
+  pub lived : Lived (life_of u V n before granted.grounds) before after z
 
 abbrev pub Runs : Setup → Service → Set → ℕ → List Turn → Result Status Refusal → List Turn → Set → ℕ → Type 0
 Runs u V s n before (Ok z) after s' n' = Ran u V s n before after (status_state z s' n')
-Runs u V s n before (Err e) after s' n' =
-    (empty : Bool) × Emptiness s empty × (open_grounds u empty ≡ Err e) × (after ≡ before)
+Runs u V s n before (Err e) after s' n' = OpenRefused u s e × (after ≡ before)

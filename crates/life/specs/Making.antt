@@ -5,20 +5,16 @@
 --   Keeps kind_of b c           — the bench c has the replicas of the bench b, the register and the service that were lent to it, and a service of the same kind
 --   Made u V x cs j t           — the turn t has what came of the call in the place j of the calls cs, which were made in turn from the state x
 --   Underway u V x cs k ts y    — of the turns ts, with the calls cs, the first k were made from the state x, and y is the state then
---   RunsIfOpened u V s n b a z  — on a new bench u with the service V, over a register with the set s and n free places, the turns b became the turns a, and z is the state at the end: where the open is granted, that is the life
-use Rattle.std.specs.Prelude.{◌≡◌, ℕ, ◌<◌, ◌≤◌, Bool, true, List, length, take, Some, Ok, slice_get}
+use Rattle.std.specs.Prelude.{◌≡◌, ℕ, ◌<◌, ◌≤◌, Bool, List, length, take, Some, slice_get}
 use Rattle.record.specs.Statements.{reply_by, commit_by}
-use Rattle.register.specs.Sets.{Set, Emptiness}
 use Rattle.quorum.specs.Quorums.{said, Witnesses}
 use Rattle.protocol.specs.Setup.{Setup, replicas, quorum_size}
 use Rattle.protocol.specs.Service.{Service}
 use Rattle.protocol.specs.State.{State}
-use Rattle.protocol.specs.Open.{open_grounds}
 use Rattle.protocol.specs.Call as rules
 use Rattle.protocol.specs.Life.{run, outcomes}
 use Rattle.bench.specs.declared.open.Bench.{Bench}
 use Rattle.life.specs.Calls.{call_of, calls_of, told, told_in}
-use Rattle.life.specs.Lives.{life_of, Lived}
 use Rattle.life.specs.declared.call.Outcome.{Outcome}
 use Rattle.life.specs.declared.call.Outcome.TheVariants.{Yes}
 use Rattle.life.specs.declared.call.Turn.{Turn}
@@ -51,8 +47,3 @@ pub record Underway
   pub calls : calls_of ts ≡ cs
   pub made : (j : ℕ) (t : Turn) → j < k → slice_get ts j ≡ Some t → Made u V x cs j t
   pub state : y ≡ run u V x (take k cs)
-
-pub record RunsIfOpened
-    (u : Setup) (V : Service) (s : Set) (n : ℕ) (before after : List Turn) (z : State) : Type 0 where
-  pub lived :
-      Emptiness s true → (o : open_grounds u true ≡ Ok tt) → Lived (life_of u V n before o) before after z

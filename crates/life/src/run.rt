@@ -1,10 +1,10 @@
 //! Running a life.
-ghost use Rattle.std.specs.Prelude.{◌≡◌, IfErr, length};
-ghost use Rattle.bench.specs.Setups.{setup_of};
+ghost use Rattle.std.specs.Prelude.{◌≡◌, IfErr, IfOk, MatchResult, length};
+ghost use Rattle.bench.specs.Setups.{setup_of, OpenRefused};
 ghost use Rattle.bench.specs.States.{service_of, state_of, status_state};
 ghost use Rattle.life.specs.Calls.{calls_of};
-ghost use Rattle.life.specs.Making.{Keeps, Underway, RunsIfOpened};
-ghost use Rattle.life.specs.Lives.{Runs};
+ghost use Rattle.life.specs.Making.{Keeps, Underway};
+ghost use Rattle.life.specs.Lives.{Ran, Runs};
 
 use crate::call::Turn;
 use crate::make::make;
@@ -23,26 +23,26 @@ fn make_all<R: Register, S: Service>(bench: &mut Bench<'_, R, S>, turns: &mut [T
     }
 }
 
-// Makes every call in its turn on a new bench.
+// Opens a bench, and makes every call in its turn.
 fn live<R: Register, S: Service>(
-    setup: Setup,
+    f: u64,
+    foreign: u64,
     register: &mut R,
     service: &mut S,
     turns: &mut [Turn<'_>],
-) -> Status
-    ensures life { RunsIfOpened (setup_of setup) (service_of S.fresh S.next S.answer (S.state service.old)) (R.held register.old) (R.free register.old) turns.old turns.new (status_state result (R.held register.new) (R.free register.new)) }
-    ensures kind { S.fresh (S.state service.new) ≡ S.fresh (S.state service.old) }
+) -> Result<Status, Refusal>
+    ensures life { MatchResult result (λ status. Ran (record { f = f; mask = foreign }) (service_of S.fresh S.next S.answer (S.state service.old)) (R.held register.old) (R.free register.old) turns.old turns.new (status_state status (R.held register.new) (R.free register.new))) (λ e. OpenRefused (record { f = f; mask = foreign }) (R.held register.old) e) }
+    ensures kind { IfOk result (λ _. S.fresh (S.state service.new) ≡ S.fresh (S.state service.old)) }
 {
-    let mut bench = Bench::open(setup, register, service);
+    let mut bench = Bench::open(f, foreign, register, service)?;
     make_all(&mut bench, turns);
-    bench.close()
+    Ok(bench.close())
 }
 
 /// Opens a bench over the register and the service, and makes every call in its turn. What comes of
 /// it is written into the turns; the bench is ended, and what it kept is handed out.
 ///
-/// If the open is refused, no call is made, and register and turns are as they were.
-#[tactic(auto, using(crate::proofs::Lasting::ran))]
+/// If the open is refused, no call is made, and register, service and turns are as they were.
 pub fn run_life<R: Register, S: Service>(
     f: u64,
     foreign: u64,
@@ -52,8 +52,9 @@ pub fn run_life<R: Register, S: Service>(
 ) -> Result<Status, Refusal>
     ensures life { Runs (record { f = f; mask = foreign }) (service_of S.fresh S.next S.answer (S.state service.old)) (R.held register.old) (R.free register.old) turns.old result turns.new (R.held register.new) (R.free register.new) }
     ensures kind { S.fresh (S.state service.new) ≡ S.fresh (S.state service.old) }
-    ensures refused { IfErr result (λ _. register.new ≡ register.old) }
+    ensures refused { IfErr result (λ _. (register.new ≡ register.old) × (service.new ≡ service.old)) }
 {
-    let setup = Setup::check(f, foreign, &*register)?;
-    Ok(live(setup, register, service, turns))
+    // The open once more, ahead: where it is refused, register and service are not even lent.
+    Setup::check(f, foreign, &*register)?;
+    live(f, foreign, register, service, turns)
 }
