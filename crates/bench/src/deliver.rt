@@ -1,5 +1,5 @@
 //! The call deliver.
-ghost use Rattle.std.specs.Prelude.{◌≡◌};
+ghost use Rattle.std.specs.Prelude.{◌≡◌, false, is_ok};
 ghost use Rattle.bench.specs.Setups.{setup_of};
 ghost use Rattle.bench.specs.States.{service_of, state_of, Does};
 ghost use Rattle.protocol.specs.Deliver.{deliver};
@@ -27,6 +27,7 @@ impl<'a, R: Register, S: Service> Bench<'a, R, S> {
     pub fn deliver(&mut self, replica: u64, slot: u64) -> Result<(), Refusal>
         ensures does { Does R.held R.free self.old (λ u x. deliver u (service_of S.fresh S.next S.answer (S.state self.old.service.now)) x replica slot) result self.new }
         ensures kind { S.fresh (S.state self.new.service.now) ≡ S.fresh (S.state self.old.service.now) }
+        ensures grounds { is_ok (deliver (setup_of self.old.setup) (service_of S.fresh S.next S.answer (S.state self.old.service.now)) (state_of R.held R.free self.old) replica slot).grounds ≡ false → self.new.service.now ≡ self.old.service.now }
     {
         self.may_deliver(replica, slot)?;
         let r = self.replica(replica);
