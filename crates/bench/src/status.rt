@@ -31,7 +31,8 @@ impl Status {
 
     /// The replicas by their numbers.
     pub fn replicas(&self) -> &[Replica]
-        ensures { result.now ≡ self.now.replicas }
+        ensures replicas { result.now ≡ self.now.replicas }
+        ensures sixteen { length result.now ≡ 16 }
     {
         &self.replicas
     }

@@ -1,0 +1,5 @@
+pub mod Faults
+pub mod Statements
+pub mod Calls
+pub mod Told
+pub mod Lives
