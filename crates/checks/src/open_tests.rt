@@ -1,5 +1,6 @@
-//! Which setups a bench opens with.
-use bench::Setup;
+//! With which f and which foreign masks a bench opens.
+use allotment::Allotment;
+use bench::Bench;
 use record::{Kind, Record};
 use refusal::{Ground, Refusal};
 use register::Register;
@@ -11,13 +12,14 @@ fn at_0(ground: Ground) -> Option<Refusal> {
 }
 
 #[test]
-fn setups_open_over_an_empty_register(rt: HostRuntime) {
+fn benches_open_over_an_empty_register(rt: HostRuntime) {
     let said = Record {
         kind: Kind::Drop.into(),
         ..Record::default()
     };
     let mut places = [said; 2];
     let mut table = Table::new(&mut places);
+    let mut allotment = Allotment::new();
     let cases = [
         (0, 0, at_0(Ground::FaultBound)),
         (6, 0, at_0(Ground::FaultBound)),
@@ -28,14 +30,14 @@ fn setups_open_over_an_empty_register(rt: HostRuntime) {
     ];
     for (f, foreign, refused) in cases {
         assert_eq!(rt;
-            Setup::check(f, foreign, &table).err(),
+            Bench::open(f, foreign, &mut table, &mut allotment).err(),
             refused,
             "f {f}, foreign {foreign}"
         );
     }
     assert_eq!(rt; table.enter(&said), Ok(()));
     assert_eq!(rt;
-        Setup::check(1, 8, &table).err(),
+        Bench::open(1, 8, &mut table, &mut allotment).err(),
         at_0(Ground::RegisterNotEmpty)
     );
 }

@@ -44,7 +44,10 @@ const FORGED_100: Record = Record {
 };
 
 // The balance as it is.
-const FORGED_70: Record = Record { result: 70, ..FORGED_100 };
+const FORGED_70: Record = Record {
+    result: 70,
+    ..FORGED_100
+};
 
 const FORGED_0: Record = Record {
     slot: 3,

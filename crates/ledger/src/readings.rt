@@ -39,13 +39,22 @@ const FORGED_6000: Record = Record {
 };
 
 // The same for slot 4, which would be true if slot 3 were an operation.
-const FORGED_6000_FOR_4: Record = Record { slot: 4, ..FORGED_6000 };
+const FORGED_6000_FOR_4: Record = Record {
+    slot: 4,
+    ..FORGED_6000
+};
 
 // The same under the number of an honest replica.
-const FORGED_FOR_3: Record = Record { signer: 3, ..FORGED_6000 };
+const FORGED_FOR_3: Record = Record {
+    signer: 3,
+    ..FORGED_6000
+};
 
 // The word has the bit of its own slot, which breaks the layout.
-const OFF_LAYOUT: Record = Record { word: 4, ..FORGED_6000 };
+const OFF_LAYOUT: Record = Record {
+    word: 4,
+    ..FORGED_6000
+};
 
 const DROP: Record = Record {
     kind: Kind::Drop as u8,
