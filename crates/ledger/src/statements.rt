@@ -1,6 +1,6 @@
 //! Statements of four replicas in a register with three places, and a quorum among them.
 use quorum::{Membership, count};
-use record::{Kind, Record};
+use record::Record;
 use register::{Register, insert};
 use registers::{SpareSheet, Table};
 
@@ -12,13 +12,7 @@ pub const MEMBERS: Membership = Membership {
 
 /// The statement that a replica answered `answer` for slot 1 of view 0.
 pub fn answer_of(signer: u8, answer: u64) -> Record {
-    Record {
-        kind: Kind::Reply.into(),
-        signer,
-        slot: 1,
-        result: answer,
-        ..Record::default()
-    }
+    Record::reply_by(signer, 0, 1, 0, answer)
 }
 
 fn enter<R: Register>(

@@ -50,7 +50,7 @@ pub record Lived (y : Life) (before after : List Turn) (z : State) : Type 0 wher
   pub came : (k : ℕ) (t : Turn) → slice_get after k ≡ Some t → CameOf y k t
   -- the bench ends in the state to which the rules bring it
   pub state : z ≡ state_at y (length y.calls)
-  -- every call of it keeps the rules of the replicas, and is refused on grounds of its own or since the register is full
+  -- at every step each call that could be put next keeps the rules of the replicas; and where the service answers 64 bits, it is refused, if at all, on its own grounds or since the register is full
   pub rules : KeepsRules y
   pub refusals : RefusesOwnOrFull y
   -- and the life keeps one ledger

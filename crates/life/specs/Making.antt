@@ -2,7 +2,7 @@
 --   Backed n q p w              — w has at least q numbers; the first q are different, are below n and pass the test p, and the others are 0
 --   Backs u x c w               — the bytes w are a quorum that said what the certificate call c asks for, in the state x of a bench u; no other call has such
 --   Makes u V x c o y           — the call c was made on a bench u with the service V in the state x; o came of it, and y is the state then
---   Keeps kind_of b c           — the bench c has the replicas of the bench b, the register and the service that were lent to it, and a service of the same kind
+--   Keeps kind_of b c           — the bench c has the setup of the bench b, the register and the service that were lent to it, and a service of the same kind
 --   Made u V x cs j t           — the turn t has what came of the call in the place j of the calls cs, which were made in turn from the state x
 --   Underway u V x cs k ts y    — of the turns ts, with the calls cs, the first k were made from the state x, and y is the state then
 use Rattle.std.specs.Prelude.{◌≡◌, ℕ, ◌<◌, ◌≤◌, Bool, List, length, take, Some, slice_get}
