@@ -1,5 +1,4 @@
 pub mod Faults
-pub mod Statements
 pub mod Calls
 pub mod Told
 pub mod Lives

@@ -12,6 +12,7 @@
 --   rating, allotment                      — the services
 use Rattle.std.specs.Prelude.{◌≡◌, ℕ, true, cond, ◌==◌, ◌⊎◌, List, [], length, map, Ok, Err, Result}
 use Rattle.refusal.specs.Grounds.{Answer}
+use Rattle.record.specs.declared.Record.{Record}
 use Rattle.record.specs.Tapes.{places}
 use Rattle.register.specs.Sets.{Set, nothing}
 use Rattle.rating.specs.Rating.{rating_next, rating_answer}
@@ -26,11 +27,9 @@ use Rattle.life.specs.Calls.{calls_of}
 use Rattle.life.specs.Lives.{Runs}
 use Rattle.life.specs.declared.call.Turn.{Turn}
 use Rattle.fotsgari_c.specs.Faults.{fault_number}
-use Rattle.fotsgari_c.specs.Statements.{record_of}
 use Rattle.fotsgari_c.specs.Calls.{read_all, IsFault}
 use Rattle.fotsgari_c.specs.Told.{outcome_of, status_of}
 use Rattle.fotsgari_c.specs.declared.call.Call.{Call}
-use Rattle.fotsgari_c.specs.declared.statement.Record.{Record}
 use Rattle.fotsgari_c.specs.declared.outcome.Outcome.{Outcome}
 use Rattle.fotsgari_c.specs.declared.status.Status.{Status}
 use Rattle.fotsgari_c.specs.declared.fault.Fault.{Fault}
@@ -45,7 +44,7 @@ opening u (Ok ks) = unless_refused (open_grounds u true) ks
 opening u (Err e) = Err e
 
 abbrev pub asked : Setup → List Call → List Record → List Outcome → Result (List rules.Call) Fault
-asked u cs rs os = cond (length os == length cs) (opening u (read_all (map record_of rs) cs)) (Err fault.Outcomes)
+asked u cs rs os = cond (length os == length cs) (opening u (read_all rs cs)) (Err fault.Outcomes)
 
 pub record Told (u : Setup) (V : Service) (n : ℕ) (b : List Turn) (os' : List Outcome) (z' : Status) : Type 0 where
   -- the turns afterwards, what the bench kept, and the set and the free places of the register at the end

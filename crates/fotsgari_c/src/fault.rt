@@ -1,10 +1,9 @@
 //! Why a life is not run.
 ghost use Rattle.std.specs.Prelude.{◌≡◌};
 ghost use Rattle.fotsgari_c.specs.Faults.{fault_number};
-ghost use Rattle.fotsgari_c.specs.declared.fault.Fault.TheVariants.{Open, Memory};
+ghost use Rattle.fotsgari_c.specs.declared.fault.Fault.TheVariants.{Open};
 
 use refusal::Refusal;
-use std::alloc::AllocError;
 
 /// Why a life is not run.
 #[derive(Clone, Copy, Debug)]
@@ -45,14 +44,5 @@ impl From<Refusal> for Fault {
 
     fn from(refusal: Refusal) -> Fault {
         Fault::Open(refusal)
-    }
-}
-
-/// A lack of memory as a fault.
-impl From<AllocError> for Fault {
-    ghost from_gives = { λ _ fault. fault ≡ Memory };
-
-    fn from(_: AllocError) -> Fault {
-        Fault::Memory
     }
 }

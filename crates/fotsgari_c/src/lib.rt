@@ -7,7 +7,6 @@ mod call;
 mod fault;
 mod outcome;
 mod run;
-mod statement;
 mod status;
 
 use crate::run::run;
@@ -15,7 +14,7 @@ use allotment::Allotment;
 pub use call::Call;
 pub use outcome::Outcome;
 use rating::Rating;
-pub use statement::Record;
+use record::Record;
 pub use status::{Replica, Status};
 use std::alloc::Global;
 

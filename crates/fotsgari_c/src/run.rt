@@ -6,9 +6,9 @@ ghost use Rattle.fotsgari_c.specs.Lives.{Turns, Comes, Answers};
 use crate::call::{Call, turns_of};
 use crate::fault::Fault;
 use crate::outcome::{Outcome, tell};
-use crate::statement::{Record, records_of};
 use crate::status::{Status, status_of};
 use life::{Turn, run_life};
+use record::Record;
 use refusal::Refusal;
 use service::Service;
 use std::alloc::Global;
@@ -51,8 +51,7 @@ fn run_or_fault<S: Service>(
     if outcomes.len() != calls.len() {
         return Err(Fault::Outcomes);
     }
-    let records = records_of(alloc, records)?;
-    let mut turns = turns_of(alloc, calls, &records)?;
+    let mut turns = turns_of(alloc, calls, records)?;
     run_turns(f, foreign, service, tape, &mut turns, outcomes, status)?;
     Ok(())
 }

@@ -16,6 +16,7 @@ pub const SIZE: usize = 20;
 
 /// A record: the fields of a statement as plain numbers, which may break the layout.
 // Numbers, also for kind and verdict: any number in a field has to meet a refusal.
+#[repr(C)]
 #[derive(Clone, Copy, Debug, Default, PartialEq, Eq)]
 pub struct Record {
     /// The number of its kind.
