@@ -33,12 +33,15 @@ pub(crate) trait Store {
         ensures store { Appends self.old r self.new };
 }
 
-// Whether `r` is a statement, and one of the records. With `contains` in place of `any` a table's
-// ask takes up to 1.7 times as long.
+// Whether `r` is a statement, and one of the records. Records differ most often in the slot, so it is
+// looked at first: with `==` alone a table's ask takes about twice as long.
 pub(crate) fn holds(records: &[Record], r: &Record) -> bool
     ensures { result ≡ stored is_there records.now r.now }
 {
-    r.keeps_layout() && records.iter().any(|record| record == r)
+    r.keeps_layout()
+        && records
+            .iter()
+            .any(|record| record.slot == r.slot && record == r)
 }
 
 // Whether none of the records is a statement.

@@ -8,12 +8,12 @@ ghost use Rattle.tape.specs.Tapes.{has_bytes};
 
 use record::{Record, SIZE};
 
-// Whether one of the parts has just these bytes. With `contains` in place of `any` a tape's ask
-// takes up to 1.5 times as long.
+// Whether one of the parts has just these bytes. They are compared as slices, of which the first
+// bytes are looked at before the others: with arrays a tape's ask takes about three times as long.
 pub(crate) fn has(parts: &[[u8; SIZE]], bytes: &[u8; SIZE]) -> bool
     ensures { result ≡ list_any (λ y. bytes_eq y bytes.now) parts.now }
 {
-    parts.iter().any(|part| part == bytes)
+    parts.iter().any(|part| part[..] == bytes[..])
 }
 
 // Whether none of the parts holds a statement: as of a table's records, but each is unpacked.
