@@ -1,0 +1,57 @@
+/* Registers and the counting of a quorum, through the proved library crates/registers_c. docs/C.md
+ * explains it.
+ *
+ * As in fotsgari.h, nothing checks these declarations or a call: every pointer must be valid for as
+ * many elements as the length after it says, aligned, and not NULL, also where the length is 0, and
+ * what is handed over must not overlap. Nothing of it is used after the call.
+ */
+#ifndef FOTSGARI_REGISTERS_H
+#define FOTSGARI_REGISTERS_H
+
+#include "fotsgari.h"
+
+#ifdef __cplusplus
+extern "C" {
+#endif
+
+/* The numbers of the steps. */
+enum fotsgari_step_number {
+    FOTSGARI_ASK = 1,      /* whether the register holds the statement */
+    FOTSGARI_IS_EMPTY = 2, /* whether it holds none */
+    FOTSGARI_ENTER = 3,    /* enters the statement */
+    FOTSGARI_COUNT = 4     /* how many replicas said the statement, each under its own number */
+};
+
+enum fotsgari_step_outcome {
+    FOTSGARI_NO_STEP = 0, /* no step has the number: nothing is done */
+    FOTSGARI_STEP_GRANTED = 1,
+    FOTSGARI_STEP_YES = 2,
+    FOTSGARI_STEP_NO = 3,
+    FOTSGARI_STEP_REFUSED = 4,
+    FOTSGARI_STEP_COUNTED = 5
+};
+
+/* A step on a register, and what came of it. */
+struct fotsgari_step {
+    struct fotsgari_record statement;
+    uint8_t number;   /* any number is allowed */
+    uint8_t replicas; /* count: how many replicas there are, numbered from 0 */
+    uint8_t outcome;  /* written */
+    uint8_t value;    /* written: refused, the number of the ground; counted, how many; else 0 */
+};
+
+/* Each makes the steps in their turn on a register that is empty at first: over the tape, over the
+ * table, or a spare sheet of 16 places over the tape. What memory held before does not matter. */
+void fotsgari_use_tape(uint8_t *tape, size_t tape_length, struct fotsgari_step *steps, size_t steps_length);
+
+void fotsgari_use_table(
+    struct fotsgari_record *table, size_t table_length, struct fotsgari_step *steps, size_t steps_length);
+
+void fotsgari_use_sheet_on_tape(
+    uint8_t *tape, size_t tape_length, struct fotsgari_step *steps, size_t steps_length);
+
+#ifdef __cplusplus
+}
+#endif
+
+#endif
