@@ -53,7 +53,7 @@ module _ (u : Setup) (V : Service) (m : Model) (I : Inv u V m) where
   quorum_layout x q = let r = member u I.few (said m.held x) q in (r.who, I.layout (signed_by x r.who) r.says)
 
   -- a view starts from one base
-  pub started_unique : (v : ℕ) (b b' : ℕ × ℕ) → Started u m.held v b → Started u m.held v b' → b ≡ b'
+  started_unique : (v : ℕ) (b b' : ℕ × ℕ) → Started u m.held v b → Started u m.held v b' → b ≡ b'
   started_unique v b b' (inl p) (inl q) = ap₂ (λ (n w : ℕ). (n, w)) (p.1 ∙ sym q.1) (p.2 ∙ sym q.2)
   started_unique v b b' (inl p) (inr q) = absurd (omega (arith, p.0, q.0))
   started_unique v b b' (inr p) (inl q) = absurd (omega (arith, p.0, q.0))
@@ -70,7 +70,7 @@ module _ (u : Setup) (V : Service) (m : Model) (I : Inv u V m) where
       merged_of u V m I r.who r.honest v b.0 b.1 r.says
 
   -- no slot is prepared both as an operation and as a no-op
-  pub prepare_clash : (v l : ℕ) → QuorumSaid u m.held (prepare_by 0 v l 0) → QuorumSaid u m.held (prepare_by 0 v l 1) → ⊥
+  prepare_clash : (v l : ℕ) → QuorumSaid u m.held (prepare_by 0 v l 0) → QuorumSaid u m.held (prepare_by 0 v l 1) → ⊥
   prepare_clash v l p q =
       let e =
       one_content (prepare_by 0 v l 0) (prepare_by 0 v l 1)
@@ -83,7 +83,7 @@ module _ (u : Setup) (V : Service) (m : Model) (I : Inv u V m) where
       let r = member u I.few (said m.held (commit_by 0 v l d)) p in
       (commit_of u V m I r.who r.honest v l d r.says).prepared
 
-  pub prepare_drop : (v l : ℕ) → QuorumSaid u m.held (prepare_by 0 v l 1) → QuorumSaid u m.held (drop_by 0 v l)
+  prepare_drop : (v l : ℕ) → QuorumSaid u m.held (prepare_by 0 v l 1) → QuorumSaid u m.held (drop_by 0 v l)
   prepare_drop v l p =
       let r = member u I.few (said m.held (prepare_by 0 v l 1)) p in
       (prepare_of u V m I r.who r.honest v l 1 r.says).dropped refl
@@ -95,7 +95,7 @@ module _ (u : Setup) (V : Service) (m : Model) (I : Inv u V m) where
       subst (λ (c : ℕ × ℕ). c.0 ≤ l) (started_unique v (t.base, t.base_word) b t.started e) t.from
 
   -- where a slot through that of a certified answer is prepared as a no-op, the answer's word has it so
-  pub reply_prepare :
+  reply_prepare :
       (v s w a l : ℕ) → QuorumSaid u m.held (reply_by 0 v s w a) → QuorumSaid u m.held (prepare_by 0 v l 1) → l ≤ s
       → bit w l ≡ true
   reply_prepare v s w a l q p h =
@@ -103,7 +103,7 @@ module _ (u : Setup) (V : Service) (m : Model) (I : Inv u V m) where
       let g = reply_of u V m I r.who r.honest v s w a r.first in
       true_from_ne_false (bit w l) (λ e. prepare_clash v l (commit_prepare v l 0 (g.dropped l r.second h e)) p)
 
-  pub answer_seen :
+  answer_seen :
       (v s w a : ℕ) (b : ℕ × ℕ) → QuorumSaid u m.held (reply_by 0 v s w a) → Started u m.held v b → Seen u m.held v s w b
   answer_seen v s w a b q e =
       let r = member u I.few (said m.held (reply_by 0 v s w a)) q in

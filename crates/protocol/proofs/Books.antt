@@ -16,7 +16,7 @@ book_at ops l h = cond-true (is_stamped ops l) (Some (get_or ops l 0)) None (lt-
 pub known_below : (ops : List ℕ) (l : ℕ) → l < length ops → Known (book ops) l
 known_below ops l h = (get_or ops l 0, book_at ops l h)
 
-pub book_none : (ops : List ℕ) (l : ℕ) → length ops ≤ l → book ops l ≡ None
+book_none : (ops : List ℕ) (l : ℕ) → length ops ≤ l → book ops l ≡ None
 unfolding book
 book_none ops l h = cond-false (is_stamped ops l) (Some (get_or ops l 0)) None (le-ltb l (length ops) h)
 
@@ -57,7 +57,7 @@ fed_step : Bool → List ℕ → Option ℕ → List ℕ
 fed_step t xs o = cond t xs (xs ++ listed o)
 
 -- words with the same bits, and books with the same operations, below s feed alike
-pub fed_alike :
+fed_alike :
     (b b' : Book) (w w' s : ℕ) → ((l : ℕ) → l < s → b l ≡ b' l) → ((l : ℕ) → l < s → bit w l ≡ bit w' l)
     → fed b w s ≡ fed b' w' s
 unfolding fed fed_step

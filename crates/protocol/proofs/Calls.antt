@@ -59,7 +59,7 @@ module _ (u : Setup) (V : Service) (x : State) (S : Sound u V x) where
   drops_by v s Operation e n = let z : ◌≡◌ {A = ℕ} 0 1 = ap verdict_number n in absurd (omega (arith, z))
   drops_by v s NoOp e n = search rules
 
-  pub stamp_step : (op : ℕ) → Kept u V x (acting x (stamp x op))
+  stamp_step : (op : ℕ) → Kept u V x (acting x (stamp x op))
   stamp_step op = stamps_one u V x S (stamp x op).grounds op (λ e. moves.stamp op (search rules))
 
   -- the slot that is delivered is the length of the line
@@ -80,21 +80,21 @@ module _ (u : Setup) (V : Service) (x : State) (S : Sound u V x) where
       at_length : At r.length
       at_length e = moves.deliver i (works i (search rules) (search rules)) (through r.length (search rules)) (search rules)
 
-  pub deliver_step : (i s : ℕ) → Kept u V x (acting x (deliver u V x i s))
+  deliver_step : (i s : ℕ) → Kept u V x (acting x (deliver u V x i s))
   deliver_step i s =
       speaks u V x S (deliver u V x i s).grounds i _ _ (λ e. (low i (search rules), delivers i s (search rules) e))
 
-  pub find_step : (i : ℕ) → Kept u V x (acting x (find u x i))
+  find_step : (i : ℕ) → Kept u V x (acting x (find u x i))
   find_step i =
       speaks_only u V x S (find u x i).grounds i _
       (λ e. (low i (search rules), moves.find i (works i (search rules) (search rules)) (search rules) (known_below x.stamped _ (search rules))))
 
-  pub drop_step : (i : ℕ) → Kept u V x (acting x (drop u x i))
+  drop_step : (i : ℕ) → Kept u V x (acting x (drop u x i))
   drop_step i =
       speaks_only u V x S (drop u x i).grounds i _
       (λ e. (low i (search rules), moves.drop i (works i (search rules) (search rules)) (search rules) (known_below x.stamped _ (search rules))))
 
-  pub decide_step : (i s : ℕ) (d : Verdict) → Kept u V x (acting x (decide u x i s d))
+  decide_step : (i s : ℕ) (d : Verdict) → Kept u V x (acting x (decide u x i s d))
   decide_step i s d =
       speaks_only u V x S (decide u x i s d).grounds i _
       (λ e. (
@@ -103,7 +103,7 @@ module _ (u : Setup) (V : Service) (x : State) (S : Sound u V x) where
             (search rules) (drops_by _ s d (search rules)) (search rules),
       ))
 
-  pub prepare_step : (i s : ℕ) (d : Verdict) → Kept u V x (acting x (prepare u x i s d))
+  prepare_step : (i s : ℕ) (d : Verdict) → Kept u V x (acting x (prepare u x i s d))
   prepare_step i s d =
       speaks_only u V x S (prepare u x i s d).grounds i _
       (λ e. (
@@ -112,7 +112,7 @@ module _ (u : Setup) (V : Service) (x : State) (S : Sound u V x) where
             (search rules) (drops_by _ s d (search rules)) (search rules),
       ))
 
-  pub commit_step : (i s : ℕ) (d : Verdict) → Kept u V x (acting x (commit u x i s d))
+  commit_step : (i s : ℕ) (d : Verdict) → Kept u V x (acting x (commit u x i s d))
   commit_step i s d =
       speaks u V x S (commit u x i s d).grounds i _ _
       (λ e. (
@@ -121,7 +121,7 @@ module _ (u : Setup) (V : Service) (x : State) (S : Sound u V x) where
             (search rules),
       ))
 
-  pub settle_step : (i s : ℕ) (d : Verdict) → Kept u V x (acting x (settle u x i s d))
+  settle_step : (i s : ℕ) (d : Verdict) → Kept u V x (acting x (settle u x i s d))
   settle_step i s d =
       turns u V x S (settle u x i s d).grounds i _
       (λ e. (
@@ -130,31 +130,31 @@ module _ (u : Setup) (V : Service) (x : State) (S : Sound u V x) where
             (search rules),
       ))
 
-  pub reply_step : (i s : ℕ) → Kept u V x (acting x (reply u V x i s))
+  reply_step : (i s : ℕ) → Kept u V x (acting x (reply u V x i s))
   reply_step i s =
       speaks_only u V x S (reply u V x i s).grounds i _
       (λ e. (low i (search rules), moves.reply i s (works i (search rules) (search rules)) (through s (search rules)) (search rules) (search rules)))
 
-  pub leave_step : (i t : ℕ) → Kept u V x (acting x (leave u x i t))
+  leave_step : (i t : ℕ) → Kept u V x (acting x (leave u x i t))
   leave_step i t =
       speaks u V x S (leave u x i t).grounds i _ _ (λ e. (low i (search rules), moves.leave i t (search rules) (search rules) (search rules)))
 
-  pub forge_step : (r : Record) → Kept u V x (acting x (forge u x r))
+  forge_step : (r : Record) → Kept u V x (acting x (forge u x r))
   forge_step r = forged u V x S (forge u x r).grounds r (λ e. (search rules, moves.forge r (search rules)))
 
-  pub enter_step : (i n w v : ℕ) → Kept u V x (acting x (enter u x i n w v))
+  enter_step : (i n w v : ℕ) → Kept u V x (acting x (enter u x i n w v))
   enter_step i n w v =
       turns u V x S (enter u x i n w v).grounds i _
       (λ e. (low i (search rules), moves.enter i v n w (search rules) (search rules) (search rules) (search rules)))
 
-  pub lead_step : (i : ℕ) (ps : List Record) (n w : ℕ) → Kept u V x (acting x (lead u x i ps n w))
+  lead_step : (i : ℕ) (ps : List Record) (n w : ℕ) → Kept u V x (acting x (lead u x i ps n w))
   lead_step i ps n w =
       speaks_only u V x S (lead u x i ps n w).grounds i _
       (λ e.
       let rest = (both_granted (layout_grounds ps) _ e).1 in
       (low i (search rules), moves.lead i ps (n, w) (record { honest = search rules; leaving = search rules }) (search rules) (checked_from _ _ _ _ _ ps (n, w) (search rules))))
 
-  pub start_step : (i : ℕ) (ps : List Record) (n w : ℕ) → Kept u V x (acting x (start u x i ps n w))
+  start_step : (i : ℕ) (ps : List Record) (n w : ℕ) → Kept u V x (acting x (start u x i ps n w))
   start_step i ps n w =
       speaks u V x S (start u x i ps n w).grounds i _ _
       (λ e.

@@ -37,7 +37,7 @@ unfolding count
 meet zero a b f = omega arith
 meet (suc n) a b f = omega (arith, meet n a b f, indicator_meet (a n) (b n) (f n))
 
-pub some_below : (n : ℕ) (p : ℕ → Bool) → 0 < count n p → (i : ℕ) × (i < n) × (p i ≡ true)
+some_below : (n : ℕ) (p : ℕ → Bool) → 0 < count n p → (i : ℕ) × (i < n) × (p i ≡ true)
 unfolding count
 some_below zero p h = absurd (omega arith)
 some_below (suc n) p h = go (p n) refl (some_below n p)

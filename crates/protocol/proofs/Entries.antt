@@ -93,7 +93,7 @@ module _ (x : State) where
   stamps_nothing a e = acts a (subst (λ (ops : List ℕ). Grown (book x.stamped) (book ops)) (sym e) (grown_refl (book x.stamped)))
 
 module _ (u : Setup) (V : Service) where
-  pub effect : (x : State) (c : Call) → Effect x (meaning u V x c)
+  effect : (x : State) (c : Call) → Effect x (meaning u V x c)
   effect x (Stamp op) = acts x (stamp x op) (book_push x.stamped op)
   effect x (Deliver i s) = stamps_nothing x (deliver u V x i s) refl
   effect x (Find i) = stamps_nothing x (find u x i) refl
@@ -113,7 +113,7 @@ module _ (u : Setup) (V : Service) where
 
   -- ---- what the register holds after calls
 
-  pub held_after_calls :
+  held_after_calls :
       (cs : List Call) (x : State) (r : Record) → (Said x.held r) ⊎ Enters u V x cs r → Said (run u V x cs).held r
   held_after_calls [] x r (inl h) = h
   held_after_calls [] x r (inr e) = absurd e
@@ -123,7 +123,7 @@ module _ (u : Setup) (V : Service) where
       held_after_calls cs (meaning u V x c).after r (inl ((effect x c).held r (inr e)))
   held_after_calls (c ∷ cs) x r (inr (inr e)) = held_after_calls cs (meaning u V x c).after r (inr e)
 
-  pub only_by_calls :
+  only_by_calls :
       (cs : List Call) (x : State) (r : Record) → Said (run u V x cs).held r → (Said x.held r) ⊎ Enters u V x cs r
   only_by_calls [] x r h = inl h
   only_by_calls (c ∷ cs) x r h = elim (only_by_calls cs (meaning u V x c).after r h) [
@@ -159,7 +159,7 @@ module _ (u : Setup) (V : Service) where
 
 -- ---- a life, step by step
 
-pub held_of_entered : (y : Life) (k : ℕ) (r : Record) → Entered y k r → Said (state_at y k).held r
+held_of_entered : (y : Life) (k : ℕ) (r : Record) → Entered y k r → Said (state_at y k).held r
 held_of_entered y k r e = held_after_calls y.bench y.service (take k y.calls) (opened y.places) r (inr e)
 
 pub entered_of_held : (y : Life) (k : ℕ) (r : Record) → Said (state_at y k).held r → Entered y k r

@@ -16,7 +16,7 @@ use Rattle.protocol.proofs.Saying.{signer_of, added_cases, added_other, Grows, a
 use Rattle.protocol.proofs.Invariant.{Bounds, Based, Line, Reply, Prepare, Commit, Change, Merged, Ready, Fact, Competing, Good}
 
 module _ (u : Setup) (h h' : Set) (g : Grows h h') (B B' : Book) (w : Grown B B') where
-  pub known_later : {l : ℕ} → Known B l → Known B' l
+  known_later : {l : ℕ} → Known B l → Known B' l
   known_later {l} k = (k.0, w l k.0 k.1)
 
   pub based_later : {v b x : ℕ} → Based u h v b x → Based u h' v b x
@@ -24,7 +24,7 @@ module _ (u : Setup) (h h' : Set) (g : Grows h h') (B B' : Book) (w : Grown B B'
       record { base_word = A.base_word; started = started_grows u h h' g v (b, A.base_word) A.started; below = A.below }
 
   -- replica i said no DROP of the view below its length that it had not said
-  pub line_later :
+  line_later :
       {i v b n x : ℕ} → ((l : ℕ) → l < n → Said h' (drop_by i v l) → Said h (drop_by i v l)) → Line u h B i v b n x
       → Line u h' B' i v b n x
   line_later {v = v} own L =
@@ -53,7 +53,7 @@ module _ (u : Setup) (h h' : Set) (g : Grows h h') (B B' : Book) (w : Grown B B'
         dropped = λ l d q e. quorum_grows u h h' g (commit_by 0 t l 0) (R.dropped l (own l q d) q e);
       }
 
-  pub prepare_later : {t l d : ℕ} → Prepare u h t l d → Prepare u h' t l d
+  prepare_later : {t l d : ℕ} → Prepare u h t l d → Prepare u h' t l d
   prepare_later {t = t} {l = l} P =
       record {
         dropped = λ e. quorum_grows u h h' g (drop_by 0 t l) (P.dropped e);
@@ -105,7 +105,7 @@ module _ (u : Setup) (h h' : Set) (g : Grows h h') (B B' : Book) (w : Grown B B'
             record { last = P.last; reach = P.reach; word = P.word; said = g _ P.said; under = P.under; within = P.within; bits = P.bits };
       }
 
-  pub ready_later :
+  ready_later :
       {v v' t t' t'' n x : ℕ} {m m' : Bool} → t ≤ t'
       → (t'' ≤ t → (t'' ≡ t → v < t → m ≡ true) → t'' ≡ t' → v' < t' → m' ≡ true) → Ready u h B v t m t'' n x
       → Ready u h' B' v' t' m' t'' n x
@@ -179,7 +179,7 @@ module _ (u : Setup) (V : Service) (h h' : Set) (B B' : Book) (w : Grown B B') (
       })
       (line_later u h h' T.grows B B' w (λ l p. T.drops r.view l l (λ _. p) (omega arith)) L)
 
-  pub fact_later : (x : Record) → Fact u V h B i r x → Fact u V h' B' i r' x
+  fact_later : (x : Record) → Fact u V h B i r x → Fact u V h' B' i r' x
   fact_later x F =
       let g = T.grows in
       record {
@@ -199,7 +199,7 @@ module _ (u : Setup) (V : Service) (h h' : Set) (B B' : Book) (w : Grown B B') (
         entry = λ k. let E = F.entry k in ready_later u h h' g B B' w T.target (λ p f. T.mark x.view p f) E;
       }
 
-abbrev pub Silent : Set → Set → ℕ → Type 0
+abbrev Silent : Set → Set → ℕ → Type 0
 Silent h h' j = (y : Record) → y.signer ≡ j → Said h' y → Said h y
 
 pub good_later :

@@ -19,7 +19,7 @@ use Rattle.protocol.proofs.Invariant.{Inv}
 use Rattle.protocol.proofs.Keeping.{slot_low}
 use Rattle.protocol.proofs.Merging.{merge_small, merge_stamped}
 
-abbrev pub SaysLayout : Move → Type 0
+abbrev SaysLayout : Move → Type 0
 SaysLayout rests = Unit {0}
 SaysLayout (stamping op) = Unit {0}
 SaysLayout (forges x) = Unit {0}

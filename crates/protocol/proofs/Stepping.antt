@@ -56,7 +56,7 @@ own_or_full x a f = record { either = by_grounds a.grounds a.says f }
     by_grounds (Ok t) (Some r) f e h = inr (full r (f refl r refl) e h)
 
 module _ (s : Set) (n : ℕ) (r : Record) (ok : is_ok (entering s n r) ≡ true) where
-  pub entered_layout : Layout r
+  entered_layout : Layout r
   entered_layout = let k : keeps_layout r ≡ true = grind (arith, nat_tests) in layout_from r k
 
   member_same : s r ≡ true → (y : Record) → s y ≡ added s r y

@@ -44,7 +44,7 @@ module _ (p : ℕ → Bool) where
 -- ---- the numbers that pass, in a list
 
 -- the numbers below n that pass the test p, rising
-abbrev pub passing : ℕ → (ℕ → Bool) → List ℕ
+abbrev passing : ℕ → (ℕ → Bool) → List ℕ
 passing n p = filter p (range_with_len 0 n)
 
 length_one : (n : ℕ) (b : Bool) → length (cond b (n ∷ []) []) ≡ cond b 1 0

@@ -44,7 +44,7 @@ pub record Found (s : Range ℕ) (n m : ℕ) (p : ℕ → Bool) (w : List ℕ) :
   pub end : s.end ≡ n
   pub start : s.start ≤ n
   pub number : m ≡ count s.start p
-  pub length_is : length w ≡ 16
+  length_is : length w ≡ 16
   pub before : (k : ℕ) → k < m → get_or w k 0 < s.start
   pub witnesses : Witnesses n m p w
 
@@ -73,7 +73,7 @@ module _ (p : ℕ → Bool) where
       }
 
   -- the count stays where none passes
-  pub count_same : (i n : ℕ) → i ≤ n → ((k : ℕ) → i ≤ k → k < n → p k ≡ false) → count n p ≡ count i p
+  count_same : (i n : ℕ) → i ≤ n → ((k : ℕ) → i ≤ k → k < n → p k ≡ false) → count n p ≡ count i p
   count_same i zero l h = ap (λ (k : ℕ). count k p) (omega arith)
   count_same i (suc n) l h = elim (cases_eq i (suc n)) [
     | inl e ↦ ap (λ (k : ℕ). count k p) (sym e)

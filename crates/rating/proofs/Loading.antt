@@ -62,7 +62,7 @@ distinct (c ∷ cs) h =
     (distinct cs (tail c cs h))
 
 -- there are no more curves than numbers
-pub length-numbered : (b : ℕ) (cs : Curves) → numbered b cs → length cs ≤ b
+length-numbered : (b : ℕ) (cs : Curves) → numbered b cs → length cs ≤ b
 length-numbered b cs h =
     let below : (q : ℕ) → list_any (eqb q) (map (λ c. c.number) cs) ≡ true → q < b =
     λ q found.

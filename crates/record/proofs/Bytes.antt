@@ -52,7 +52,7 @@ be_is (suc k) n = let first = byte_is k n in let rest = be_is k n in cc
 pub record BytesOf (w : Width) (k limit : ℕ) : Type 0 where
   pub writes : (n : ℕ) → to_be_bytes w n ≡ bytes_high_first k n
   pub back : (n : ℕ) → n < limit → from_be_bytes w (to_be_bytes w n) ≡ n
-  pub forth : (bs : List ℕ) (n : ℕ) → length bs ≡ k → ((i : ℕ) → get_or bs i 0 < 256) → n ≡ from_be_bytes w bs → to_be_bytes w n ≡ bs
+  forth : (bs : List ℕ) (n : ℕ) → length bs ≡ k → ((i : ℕ) → get_or bs i 0 < 256) → n ≡ from_be_bytes w bs → to_be_bytes w n ≡ bs
 
 pub four_bytes : BytesOf w32 4 (2 ^ 32)
 four_bytes = record { writes = λ n. refl; back = from_be_bytes-to_be_bytes_4; forth = be_bytes_4 }

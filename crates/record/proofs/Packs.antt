@@ -72,7 +72,7 @@ splits r b p =
 
 module _ (b : List ℕ) (h w a : ℕ) (s : Splits b h w a) where
   -- the bytes of a record split into its own head, word and result
-  pub split_head : (r : Record) → Packs r b → h ≡ head_of r
+  split_head : (r : Record) → Packs r b → h ≡ head_of r
   split_head r p =
       let t = splits r b p in
       be_one four_bytes h (head_of r) s.head_fits t.head_fits (s.head ∙ sym t.head)
