@@ -1,5 +1,5 @@
 //! Stores of records, and entering a statement into one.
-ghost use Rattle.std.specs.Prelude.{◌≡◌, ℕ, ◌+◌, ◌<◌, List, [], ◌∷◌, ◌++◌, ◌==◌, MatchBool};
+ghost use Rattle.std.specs.Prelude.{◌≡◌, ℕ, ◌+◌, ◌<◌, List, [], ◌∷◌, ◌++◌, ◌==◌, ◌&&◌, MatchBool};
 ghost use Rattle.record.specs.declared.Record.{Record};
 ghost use Rattle.register.specs.Sets.{Emptiness, Entered, adds};
 ghost use Rattle.register.specs.Stored.{stored};
@@ -33,15 +33,23 @@ pub(crate) trait Store {
         ensures store { Appends self.old r self.new };
 }
 
-// Whether `r` is a statement, and one of the records. Records differ most often in the slot, so it is
-// looked at first: with `==` alone a table's ask takes about twice as long.
+// Whether two records agree in signer, slot and result. Most differ there, which is seen at once:
+// there is no branch between the three.
+fn look_alike(a: &Record, b: &Record) -> bool
+    ensures { result ≡ (a.now.signer == b.now.signer && a.now.slot == b.now.slot && a.now.result == b.now.result) }
+{
+    (a.signer == b.signer) & (a.slot == b.slot) & (a.result == b.result)
+}
+
+// Whether `r` is a statement, and one of the records. With `==` alone a table's ask takes up to
+// twice as long.
 pub(crate) fn holds(records: &[Record], r: &Record) -> bool
     ensures { result ≡ stored is_there records.now r.now }
 {
     r.keeps_layout()
         && records
             .iter()
-            .any(|record| record.slot == r.slot && record == r)
+            .any(|record| look_alike(record, r) && record == r)
 }
 
 // Whether none of the records is a statement.
