@@ -1,5 +1,5 @@
 -- Entering, by whether it adds the record.
-use Rattle.std.proofs.Common.{◌≡◌, ℕ, ◌+◌, ◌-◌, ◌<◌, true, false, Ok, Result, sym, ◌∙◌, arith}
+use Rattle.std.proofs.Common.{◌≡◌, ℕ, ◌+◌, ◌-◌, ◌<◌, true, false, is_ok, Ok, Result, sym, ◌∙◌, arith}
 use Rattle.std.proofs.lemmas.Bool.{cond-true, cond-false}
 use Rattle.std.proofs.lemmas.Bool.Decides.{nat_tests}
 use Rattle.refusal.specs.declared.Refusal.{Refusal}
@@ -14,6 +14,11 @@ module _ (s : Set) (n : ℕ) (r : Record) where
 
   pub adds_new : keeps_layout r ≡ true → s r ≡ false → 0 < n → adds s n r ≡ true
   adds_new kept absent room = grind (arith, nat_tests)
+
+  module _ (a : Result (Unit {0}) Refusal) where
+    -- a refused entry adds nothing
+    pub adds_nothing : a ≡ entering s n r → is_ok a ≡ false → adds s n r ≡ false
+    adds_nothing answer refused = grind (arith, nat_tests)
 
   module _ (a : Result (Unit {0}) Refusal) (s' : Set) (n' : ℕ) where
     pub entered_adding : adds s n r ≡ true → a ≡ entering s n r → s' ≡ added s r → n' + 1 ≡ n → Entered s n r a s' n'

@@ -1,4 +1,4 @@
--- What a register means, a set of statements and a number of free places, and what entering one does.
+-- What a register means, a set of statements, a number of free places and a memory, and what entering one does.
 --   Set                    — a set of records, as a test
 --   nothing                — the empty set
 --   Emptiness s b          — b tells whether s is empty: it is true if s has no member, and false if it has one
@@ -7,6 +7,7 @@
 --   entering s n r         — what entering r answers
 --   held_after s n r       — the set afterwards
 --   free_after s n r       — the number of free places afterwards
+--   memory_after stores m s n r  — the memory afterwards: where r is added, what stores makes of the memory m, else m
 --   Entered s n r a s' n'  — r was entered: that set and number became s' and n', and the answer was a
 use Rattle.std.specs.Prelude.{◌≡◌, ℕ, ◌-◌, Bool, true, false, cond, not, ◌&&◌, ◌||◌, Ok, Err, Result, ◌==◌}
 use Rattle.refusal.specs.Grounds.{refused}
@@ -44,6 +45,9 @@ held_after s n r = cond (adds s n r) (added s r) s
 
 abbrev pub free_after : Set → ℕ → Record → ℕ
 free_after s n r = cond (adds s n r) (n - 1) n
+
+abbrev pub memory_after : {M : Type 0} → (M → Record → M) → M → Set → ℕ → Record → M
+memory_after stores m s n r = cond (adds s n r) (stores m r) m
 
 pub record Entered (s : Set) (n : ℕ) (r : Record) (a : Result (Unit {0}) Refusal) (s' : Set) (n' : ℕ) : Type 0 where
   pub answer : a ≡ entering s n r

@@ -5,19 +5,28 @@
 ghost use Rattle.std.specs.Prelude.{◌≡◌, ℕ, Bool, true, false, not, is_ok};
 ghost use Rattle.record.specs.Layout.{keeps_layout};
 ghost use Rattle.record.specs.declared.Record.{Record};
-ghost use Rattle.register.specs.Sets.{Emptiness, adds, Entered};
+ghost use Rattle.register.specs.Sets.{Emptiness, adds, memory_after, Entered};
 ghost use Rattle.register.specs.Insertions.{Granted, Inserted};
 
 use record::Record;
 use refusal::Refusal;
 
-/// A register. Its meaning is the set of statements that it holds, `held`, and the number of its
-/// free places, `free`.
+/// A register. Its meaning is the set of statements that it holds, `held`, the number of its free
+/// places, `free`, and its `memory`: where the statements stand, in what is lent to it.
 pub trait Register {
     // Set and places are two members: most contracts above name one of them alone.
     ghost held: { Self → Record → Bool };
 
     ghost free: { Self → ℕ };
+
+    // The memories that registers of this type can have.
+    ghost Memory: { Type 0 };
+
+    // The memory that a register has.
+    ghost memory: { Self → Memory };
+
+    // The memory after a statement is added.
+    ghost stores: { Memory → Record → Memory };
 
     /// Whether `r` is a member. A record that breaks the layout never is.
     fn ask(&self, r: &Record) -> bool
@@ -33,6 +42,7 @@ pub trait Register {
     /// nothing is added, the whole register is left as it was, with the memory lent to it.
     fn enter(&mut self, r: &Record) -> Result<(), Refusal>
         ensures entered { Entered (held self.old) (free self.old) r.now result (held self.new) (free self.new) }
+        ensures memory { memory self.new ≡ memory_after stores (memory self.old) (held self.old) (free self.old) r.now }
         ensures unchanged { adds (held self.old) (free self.old) r.now ≡ false → self.new ≡ self.old };
 }
 
@@ -40,15 +50,17 @@ pub trait Register {
 fn enter<R: Register>(register: &mut R, r: &Record) -> Result<(), Refusal>
     ensures entered { Entered (R.held register.old) (R.free register.old) r.now result (R.held register.new) (R.free register.new) }
     ensures granted { is_ok result ≡ true → Granted (R.held register.old) (R.free register.old) r.now (not (R.held register.old r.now)) (R.held register.new) (R.free register.new) }
+    ensures memory { R.memory register.new ≡ memory_after R.stores (R.memory register.old) (R.held register.old) (R.free register.old) r.now }
     ensures unchanged { adds (R.held register.old) (R.free register.old) r.now ≡ false → register.new ≡ register.old }
 {
     register.enter(r)
 }
 
-/// Enters `r`, and answers whether it was new to the register. Where it is refused or was a member,
-/// the whole register is left as it was.
+/// Enters `r`, and answers whether it was new to the register. Where it was, the memory has it;
+/// where it is refused or was a member, the whole register is left as it was.
 pub fn insert<R: Register>(register: &mut R, r: &Record) -> Result<bool, Refusal>
     ensures inserted { Inserted (R.held register.old) (R.free register.old) r.now result (R.held register.new) (R.free register.new) }
+    ensures memory { R.memory register.new ≡ memory_after R.stores (R.memory register.old) (R.held register.old) (R.free register.old) r.now }
     ensures unchanged { adds (R.held register.old) (R.free register.old) r.now ≡ false → register.new ≡ register.old }
 {
     let known = register.ask(r);
