@@ -1,13 +1,13 @@
 -- Two registers as one: entering goes on to the second where the first refuses.
-use Rattle.std.proofs.Common.{◌≡◌, ℕ, ◌+◌, true, false, cond, is_ok, List, [], ◌∷◌, ◌++◌, MatchBool, Result, sym, ap, ◌∙◌, inl, inr, arith}
+use Rattle.std.proofs.Common.{◌≡◌, ℕ, ◌+◌, true, false, cond, ◌==◌, is_ok, List, [], ◌∷◌, ◌++◌, MatchBool, Result, sym, ap, ◌∙◌, inl, inr, arith}
 use mathlib.Core.Path.{fun_ext}
 use Rattle.std.proofs.lemmas.Bool.{cases_Bool, cond-false}
 use Rattle.std.proofs.lemmas.Bool.Decides.{nat_tests}
 use Rattle.refusal.specs.declared.Refusal.{Refusal}
 use Rattle.record.specs.declared.Record.{Record}
-use Rattle.register.specs.Sets.{Set, added, adds, entering, held_after, free_after, Entered}
-use Rattle.register.proofs.Entering.{entered_adding, entered_keeping, what_is_added, what_is_kept}
-use Rattle.registers.specs.Sheets.{Sheet, sheet_held, sheet_free, sheet_after, together, BelowFirst}
+use Rattle.register.specs.Sets.{Set, added, adds, entering, held_after, free_after, memory_after, Entered}
+use Rattle.register.proofs.Entering.{adds_nothing, entered_adding, entered_keeping, what_is_added, what_is_kept}
+use Rattle.registers.specs.Sheets.{Sheet, sheet_held, sheet_free, sheet_after, sheet_memory, sheet_stores, together, BelowFirst}
 
 -- r is entered into s with m free places, and t, which does not hold it, has k
 module _ (s t : Set) (m k : ℕ) (r : Record) (s' : Set) (m' : ℕ) (a : Result (Unit {0}) Refusal) (e : Entered s m r a s' m') (absent : t r ≡ false) where
@@ -58,3 +58,23 @@ module _ (s s' : Set) (m m' : ℕ) (r : Record) (a : Result (Unit {0}) Refusal) 
   pub refused_below : is_ok a ≡ false → (t' : Sheet) → MatchBool (adds (sheet_held t) (sheet_free t) r) (t'.items ≡ t.items ++ r ∷ []) (t' ≡ t) → BelowFirst s m t r s' m' t'
   refused_below refused t' after =
       below t' (sheet_entered t t' r after ∙ sym (cond-false (is_ok (entering s m r)) t (sheet_after t r) (sym (ap is_ok e.answer) ∙ refused)))
+
+-- where a statement stands, of the two: below, or in the sheet t
+module _
+    {M : Type 0} (stores : M → Record → M) (w w' : M) (s s' : Set) (m m' : ℕ) (r : Record) (a : Result (Unit {0}) Refusal)
+    (e : Entered s m r a s' m') (stored : w' ≡ memory_after stores w s m r) (t : Sheet) (absent : sheet_held t r ≡ false)
+  where
+    pub memory_above : is_ok a ≡ false → (t' : Sheet) → MatchBool (adds (sheet_held t) (sheet_free t) r) (t'.items ≡ t.items ++ r ∷ []) (t' ≡ t) → sheet_memory w' m' t' ≡ memory_after (sheet_stores stores) (sheet_memory w m t) (together s (sheet_held t)) (m + sheet_free t) r
+    memory_above refused t' after =
+        let answers = e.answer in
+        let none = adds_nothing s m r a e.answer refused in
+        let sheet = sheet_entered t t' r after in
+        elim (cases_Bool (adds (sheet_held t) (sheet_free t) r)) [
+          | inl h ↦
+              let added : adds (together s (sheet_held t)) (m + sheet_free t) r ≡ true = grind (arith, nat_tests) in
+              let full : (m == 0) ≡ true = grind (arith, nat_tests) in
+              rw (sheet, stored, e.free, none, h, added, full)
+          | inr h ↦
+              let neither : adds (together s (sheet_held t)) (m + sheet_free t) r ≡ false = grind (arith, nat_tests) in
+              rw (sheet, stored, e.free, none, h, neither)
+        ]

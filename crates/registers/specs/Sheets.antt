@@ -3,9 +3,12 @@
 --   sheet_held t                   — the statements in the used places of the sheet t
 --   sheet_free t                   — how many of the 16 places of t are not used
 --   sheet_after t r                — t after r is entered: a new statement stands in its next place, all else is as it was
+--   SheetMemory M                  — the memory of a register with a sheet: the memory M below, the free places there, and the records of the sheet
+--   sheet_memory m n t             — that memory where the memory below is m, with n free places, and the sheet is t
+--   sheet_stores stores m r        — that memory m, with r: below while a place is free there, else in the sheet's next place
 --   together s t                   — the members of s and those of t
 --   BelowFirst s m t r s' m' t'    — how r was entered, where the register below had the set s and m free places: then it has s' and m', and the sheet t is t'. What the sheet holds is not entered below; what the register below grants is not kept in the sheet
-use Rattle.std.specs.Prelude.{◌≡◌, ℕ, ◌-◌, cond, ◌||◌, [], ◌∷◌, ◌++◌, is_ok}
+use Rattle.std.specs.Prelude.{◌≡◌, ℕ, ◌-◌, cond, ◌||◌, List, [], ◌∷◌, ◌++◌, ◌==◌, is_ok}
 use Rattle.arrayvec.specs.ArrayVec.{ArrayVec, array_vec_len}
 use Rattle.record.specs.declared.Record.{Record}
 use Rattle.register.specs.Sets.{Set, adds, entering, held_after, free_after}
@@ -23,6 +26,20 @@ sheet_free t = 16 - array_vec_len t
 
 abbrev pub sheet_after : Sheet → Record → Sheet
 sheet_after t r = record { items = cond (adds (sheet_held t) (sheet_free t) r) (t.items ++ r ∷ []) t.items }
+
+pub record SheetMemory (M : Type 0) : Type 0 where
+  pub below : M
+  pub free : ℕ
+  pub sheet : List Record
+
+abbrev pub sheet_memory : {M : Type 0} → M → ℕ → Sheet → SheetMemory M
+sheet_memory m n t = record { below = m; free = n; sheet = t.items }
+
+abbrev pub sheet_stores : {M : Type 0} → (M → Record → M) → SheetMemory M → Record → SheetMemory M
+sheet_stores stores m r =
+    cond (m.free == 0)
+    (record { below = m.below; free = m.free; sheet = m.sheet ++ r ∷ [] })
+    (record { below = stores m.below r; free = m.free - 1; sheet = m.sheet })
 
 abbrev pub together : Set → Set → Set
 together s t = λ x. s x || t x

@@ -1,9 +1,12 @@
 -- A table: lent places that are records, the first of which are used.
---   table_records t        — the records in its used places
---   table_held t           — the statements in its used places
---   table_free t           — how many places are not used
---   AppendsToTable t r t'  — r was written to the lowest free place of t, which is used now: that is t'
-use Rattle.std.specs.Prelude.{◌≡◌, ℕ, ◌+◌, List, take, slice_set}
+--   table_records t   — the records in its used places
+--   table_held t      — the statements in its used places
+--   table_free t      — how many places are not used
+--   TableMemory       — which memory is lent, the records in it, and how many places of it are used
+--   table_memory t    — the memory of t
+--   table_stores m r  — the memory m, with r at the lowest free place
+use Rattle.std.specs.Prelude.{ℕ, ◌+◌, List, take, slice_set}
+use Rattle.std.specs.Borrow.{GName}
 use Rattle.record.specs.declared.Record.{Record}
 use Rattle.register.specs.Sets.{Set}
 use Rattle.registers.specs.Places.{in_places, room}
@@ -18,7 +21,13 @@ table_held t = in_places t.used t.places.now
 abbrev pub table_free : Table → ℕ
 table_free t = room t.used t.places.now
 
-pub record AppendsToTable (t : Table) (r : Record) (t' : Table) : Type 0 where
-  pub places : t'.places.now ≡ slice_set t.places.now t.used r
-  pub used : t'.used ≡ t.used + 1
-  pub lent : t'.places.ghost_name ≡ t.places.ghost_name
+pub record TableMemory : Type 0 where
+  pub lent : GName
+  pub places : List Record
+  pub used : ℕ
+
+abbrev pub table_memory : Table → TableMemory
+table_memory t = record { lent = t.places.ghost_name; places = t.places.now; used = t.used }
+
+abbrev pub table_stores : TableMemory → Record → TableMemory
+table_stores m r = record { lent = m.lent; places = slice_set m.places m.used r; used = m.used + 1 }

@@ -1,7 +1,7 @@
 ghost use Rattle.std.specs.Prelude.{◌≡◌, ◌+◌, ◌-◌, ◌∷◌, [], ◌++◌, false};
 ghost use Rattle.arrayvec.specs.ArrayVec.{array_vec_len};
-ghost use Rattle.register.specs.Sets.{adds, Entered, nothing};
-ghost use Rattle.registers.specs.Sheets.{sheet_held, sheet_free, together, BelowFirst};
+ghost use Rattle.register.specs.Sets.{adds, memory_after, Entered, nothing};
+ghost use Rattle.registers.specs.Sheets.{SheetMemory, sheet_held, sheet_free, sheet_memory, sheet_stores, together, BelowFirst};
 
 use crate::store::{Store, enter, holds, holds_nothing};
 use arrayvec::ArrayVec;
@@ -58,6 +58,12 @@ impl<R: Register> Register for SpareSheet<R> {
 
     ghost free = { λ s. R.free s.below + sheet_free s.sheet };
 
+    ghost Memory = { SheetMemory R.Memory };
+
+    ghost memory = { λ s. sheet_memory (R.memory s.below) (R.free s.below) s.sheet };
+
+    ghost stores = { sheet_stores R.stores };
+
     fn ask(&self, r: &Record) -> bool {
         self.below.ask(r) || holds(self.sheet.records(), r)
     }
@@ -69,6 +75,7 @@ impl<R: Register> Register for SpareSheet<R> {
     /// A new statement is entered below. The sheet takes it only if the register below refuses it.
     fn enter(&mut self, r: &Record) -> Result<(), Refusal>
         ensures entered { Entered (together (R.held self.old.below) (sheet_held self.old.sheet)) (R.free self.old.below + sheet_free self.old.sheet) r.now result (together (R.held self.new.below) (sheet_held self.new.sheet)) (R.free self.new.below + sheet_free self.new.sheet) }
+        ensures memory { sheet_memory (R.memory self.new.below) (R.free self.new.below) self.new.sheet ≡ memory_after (sheet_stores R.stores) (sheet_memory (R.memory self.old.below) (R.free self.old.below) self.old.sheet) (together (R.held self.old.below) (sheet_held self.old.sheet)) (R.free self.old.below + sheet_free self.old.sheet) r.now }
         ensures unchanged { adds (together (R.held self.old.below) (sheet_held self.old.sheet)) (R.free self.old.below + sheet_free self.old.sheet) r.now ≡ false → self.new ≡ self.old }
         ensures order { BelowFirst (R.held self.old.below) (R.free self.old.below) self.old.sheet r.now (R.held self.new.below) (R.free self.new.below) self.new.sheet }
     {

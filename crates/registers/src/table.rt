@@ -1,11 +1,12 @@
-ghost use Rattle.std.specs.Prelude.{◌≡◌, ◌≤◌, false, length};
+ghost use Rattle.std.specs.Prelude.{◌≡◌, ◌≤◌, length};
 
 use crate::store::{Store, enter, holds, holds_nothing};
 use record::Record;
 use refusal::Refusal;
 use register::Register;
 
-/// A register over records that the caller lends. It is scanned and written in place.
+/// A register over records that the caller lends. It is scanned and written in place: a new
+/// statement goes to the lowest free place, and nothing else of the caller's memory changes.
 #[derive(Drop)]
 pub struct Table<'a> {
     // What the caller lends is written in place, so its length stands beside it.
@@ -32,13 +33,13 @@ impl<'a> Table<'a> {
 }
 
 impl<'a> Store for Table<'a> {
-    ghost use Rattle.registers.specs.Tables.{table_records, table_free, AppendsToTable};
+    ghost use Rattle.registers.specs.Tables.{table_records, table_free, table_memory, table_stores};
 
     ghost records = { table_records };
 
     ghost room = { table_free };
 
-    ghost Appends = { AppendsToTable };
+    ghost Appends = { λ t r t'. table_memory t' ≡ table_stores (table_memory t) r };
 
     fn records(&self) -> &[Record] {
         &self.places[..self.used]
@@ -55,13 +56,17 @@ impl<'a> Store for Table<'a> {
 }
 
 impl<'a> Register for Table<'a> {
-    ghost use Rattle.register.specs.Sets.{adds, Entered};
-    ghost use Rattle.registers.specs.Places.{entered};
-    ghost use Rattle.registers.specs.Tables.{table_held, table_free};
+    ghost use Rattle.registers.specs.Tables.{TableMemory, table_held, table_free, table_memory, table_stores};
 
     ghost held = { table_held };
 
     ghost free = { table_free };
+
+    ghost Memory = { TableMemory };
+
+    ghost memory = { table_memory };
+
+    ghost stores = { table_stores };
 
     fn ask(&self, r: &Record) -> bool {
         holds(self.records(), r)
@@ -71,13 +76,7 @@ impl<'a> Register for Table<'a> {
         holds_nothing(self.records())
     }
 
-    /// A new statement goes to the lowest free place. Nothing else of the caller's memory changes.
-    fn enter(&mut self, r: &Record) -> Result<(), Refusal>
-        ensures entered { Entered (table_held self.old) (table_free self.old) r.now result (table_held self.new) (table_free self.new) }
-        ensures unchanged { adds (table_held self.old) (table_free self.old) r.now ≡ false → self.new ≡ self.old }
-        ensures places { self.new.places.now ≡ entered self.old.used self.old.places.now r.now }
-        ensures lent { self.new.places.ghost_name ≡ self.old.places.ghost_name }
-    {
+    fn enter(&mut self, r: &Record) -> Result<(), Refusal> {
         enter(self, r)
     }
 }

@@ -5,16 +5,20 @@
 --   on_tape n b           — the statements in the first n places
 --   room_on n b           — how many places b has after the first n
 --   replaced n b c        — b with the bytes c at the place n
---   entered_on n b r      — b after r is entered: a new statement stands at the place n, all else is as it was
 --   tape_held t           — the statements in the used places of the tape t
 --   tape_free t           — how many places of t are not used
-use Rattle.std.specs.Prelude.{ℕ, ◌+◌, ◌-◌, ◌*◌, min, Bool, cond, List, ◌++◌, map, take, drop}
-use Rattle.std.specs.List.{range_with_len}
+--   TapeMemory            — which memory is lent, the bytes in it, and how many places of it are used
+--   tape_memory t         — the memory of t
+--   tape_stores m r       — the memory m, with r packed at the lowest free place
+--   with_packed rs b      — b with the statements rs packed at its start, end to end
+use Rattle.std.specs.Prelude.{ℕ, ◌+◌, ◌-◌, ◌*◌, min, Bool, List, ◌++◌, length, map, take, drop}
+use Rattle.std.specs.Borrow.{GName}
+use Rattle.std.specs.List.{concat, range_with_len}
 use Rattle.std.specs.Str.{bytes_eq}
 use Rattle.record.specs.Packed.{packed}
 use Rattle.record.specs.Tapes.{places, place}
 use Rattle.record.specs.declared.Record.{Record}
-use Rattle.register.specs.Sets.{Set, adds}
+use Rattle.register.specs.Sets.{Set}
 use Rattle.register.specs.Stored.{stored}
 use Rattle.tape.specs.declared.Tape.{Tape}
 
@@ -36,11 +40,22 @@ room_on n b = places b - n
 abbrev pub replaced : ℕ → List ℕ → List ℕ → List ℕ
 replaced n b c = take (20 * n) b ++ (c ++ drop (20 * n + 20) b)
 
-abbrev pub entered_on : ℕ → List ℕ → Record → List ℕ
-entered_on n b r = cond (adds (on_tape n b) (room_on n b) r) (replaced n b (packed r)) b
-
 abbrev pub tape_held : Tape → Set
 tape_held t = on_tape t.used t.bytes.now
 
 abbrev pub tape_free : Tape → ℕ
 tape_free t = room_on t.used t.bytes.now
+
+pub record TapeMemory : Type 0 where
+  pub lent : GName
+  pub bytes : List ℕ
+  pub used : ℕ
+
+abbrev pub tape_memory : Tape → TapeMemory
+tape_memory t = record { lent = t.bytes.ghost_name; bytes = t.bytes.now; used = t.used }
+
+abbrev pub tape_stores : TapeMemory → Record → TapeMemory
+tape_stores m r = record { lent = m.lent; bytes = replaced m.used m.bytes (packed r); used = m.used + 1 }
+
+abbrev pub with_packed : List Record → List ℕ → List ℕ
+with_packed rs b = concat (map packed rs) ++ drop (20 * length rs) b

@@ -1,9 +1,9 @@
 //! A register over bytes that the caller lends.
 #![tactic(auto)]
 
-ghost use Rattle.std.specs.Prelude.{◌≡◌, ◌≤◌, false};
+ghost use Rattle.std.specs.Prelude.{◌≡◌, ◌≤◌};
 ghost use Rattle.record.specs.Tapes.{places};
-ghost use Rattle.register.specs.Sets.{adds, Entered, nothing};
+ghost use Rattle.register.specs.Sets.{nothing};
 
 mod parts;
 
@@ -12,7 +12,8 @@ use record::{Record, SIZE};
 use refusal::{Ground, Refusal};
 use register::Register;
 
-/// A register over bytes that the caller lends: records are packed into it end to end.
+/// A register over bytes that the caller lends: records are packed into it end to end. A new
+/// statement goes to the lowest free place, and nothing else of the caller's memory changes.
 #[derive(Drop)]
 pub struct Tape<'a> {
     // A type of its own beside a table: one of both would have to carry how a place is read and written.
@@ -48,11 +49,17 @@ impl<'a> Tape<'a> {
 }
 
 impl<'a> Register for Tape<'a> {
-    ghost use Rattle.tape.specs.Tapes.{entered_on, tape_held, tape_free};
+    ghost use Rattle.tape.specs.Tapes.{TapeMemory, tape_held, tape_free, tape_memory, tape_stores};
 
     ghost held = { tape_held };
 
     ghost free = { tape_free };
+
+    ghost Memory = { TapeMemory };
+
+    ghost memory = { tape_memory };
+
+    ghost stores = { tape_stores };
 
     fn ask(&self, r: &Record) -> bool {
         let Ok(bytes) = r.pack() else {
@@ -65,13 +72,7 @@ impl<'a> Register for Tape<'a> {
         holds_nothing(self.parts())
     }
 
-    /// A new statement goes to the lowest free place. Nothing else of the caller's memory changes.
-    fn enter(&mut self, r: &Record) -> Result<(), Refusal>
-        ensures entered { Entered (tape_held self.old) (tape_free self.old) r.now result (tape_held self.new) (tape_free self.new) }
-        ensures unchanged { adds (tape_held self.old) (tape_free self.old) r.now ≡ false → self.new ≡ self.old }
-        ensures bytes { self.new.bytes.now ≡ entered_on self.old.used self.old.bytes.now r.now }
-        ensures lent { self.new.bytes.ghost_name ≡ self.old.bytes.ghost_name }
-    {
+    fn enter(&mut self, r: &Record) -> Result<(), Refusal> {
         // The steps of a table's enter, but packing checks the layout, and places are bytes.
         let part = r.pack()?;
         if has(self.parts(), &part) {
