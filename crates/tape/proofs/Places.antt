@@ -1,11 +1,14 @@
 -- What the places of a tape store, and a write to one of them.
-use Rattle.std.proofs.Common.{◌≡◌, ℕ, zero, suc, ◌+◌, ◌-◌, ◌*◌, ◌<◌, ◌≤◌, min, true, false, MatchBool, List, [], ◌∷◌, ◌++◌, length, take, drop, is_ok, Ok, Err, Result, sym, refl, ap, ◌∙◌, add-one, arith, length-drop}
+use Rattle.std.proofs.Common.{◌≡◌, ℕ, zero, suc, zero-add, ◌+◌, ◌-◌, ◌*◌, ◌<◌, ◌≤◌, min, true, false, MatchBool, List, [], ◌∷◌, ◌++◌, length, take, drop, is_ok, Ok, Err, Result, sym, refl, ap, ◌∙◌, add-one, arith, length-drop}
 use borrow.Rule.Slice.PartMut.{put_mid}
+use Rattle.std.specs.Borrow.{GName}
+use Rattle.std.specs.List.{fold, flat_map}
 use Rattle.std.specs.Simd.{first_chunks}
 use Rattle.std.proofs.lemmas.Slice.Eq.{bytes_eq-Decides}
-use Rattle.std.proofs.lemmas.List.{take_at, length-take-le, drop-append-le, take-append-le, take-take, drop-take, length-append, drop-drop}
+use Rattle.std.proofs.lemmas.List.{take_at, append_assoc, append-nil, length-take-le, drop-append-le, take-append-le, take-take, drop-take, length-append, drop-drop}
+use Rattle.std.proofs.lemmas.Slice.{drop-append-drop}
 use Rattle.std.proofs.lemmas.List.FromFn.{take-map-range_with_len}
-use Rattle.std.proofs.lemmas.Bool.{cond-true, false_from_ne_true}
+use Rattle.std.proofs.lemmas.Bool.{false_from_ne_true}
 use Rattle.std.proofs.lemmas.Bool.Decides.{same_from_decides, Decides-like}
 use Rattle.refusal.specs.declared.Refusal.{Refusal}
 use Rattle.record.specs.Layout.{keeps_layout}
@@ -16,17 +19,20 @@ use Rattle.record.specs.declared.Record.{Record}
 use Rattle.record.proofs.Chunks.{chunks_are}
 use Rattle.record.proofs.Packs.{length_packed, packs_alone}
 use Rattle.record.proofs.Same.{same_decides}
-use Rattle.register.specs.Sets.{adds, Entered}
+use Rattle.register.specs.Sets.{adds, memory_after, Entered}
 use Rattle.register.specs.Stored.{stored}
 use Rattle.register.proofs.Entering.{adds_new, entered_new}
 use Rattle.register.proofs.Stored.{Holds, HoldsNone, stored_push}
-use Rattle.tape.specs.Tapes.{has_bytes, parts, used_parts, on_tape, room_on, replaced, entered_on}
+use Rattle.tape.specs.Tapes.{has_bytes, parts, used_parts, on_tape, room_on, replaced, TapeMemory, tape_stores, with_packed}
 
 -- a is what unpacking the bytes y answers
 pub unpacked : (y : List ℕ) (a : Result Record Refusal) → Unpacks 0 y a → MatchBool (is_ok a) (Holds has_bytes y) (HoldsNone has_bytes y)
 unpacked y (Ok r) u = (r, u.layout, (bytes_eq-Decides y (packed r)).1 (sym u.bytes))
 unpacked y (Err e) u =
     λ x kept. false_from_ne_true _ (λ h. u.1 x (record { layout = kept; bytes = sym ((bytes_eq-Decides y (packed x)).0 h) }))
+
+abbrev lent_bytes : GName → List ℕ → ℕ → TapeMemory
+lent_bytes lent b n = record { lent = lent; bytes = b; used = n }
 
 -- the used places as chunks of 20 bytes
 used_is : (u : ℕ) (b : List ℕ) → u ≤ places b → parts u b ≡ used_parts u b
@@ -93,5 +99,25 @@ module _ (n : ℕ) (b : List ℕ) (r : Record) (room-left : n < places b) (kept 
         let held = ap (on_tape (n + 1)) put ∙ ap (stored has_bytes) (parts_replaced (packed r) (length_packed r) n b room-left) ∙ stored_push has_bytes (used_parts n b) (packed r) r kept holds_r in
         entered_new (on_tape n b) (room_on n b) r kept absent (omega arith) _ _ held (omega (arith, same_room, ap length put))
 
-    pub put_is_entered : b' ≡ entered_on n b r
-    put_is_entered = put ∙ sym (cond-true _ (replaced n b (packed r)) b is_added)
+    pub put_is_stored : (lent : GName) → lent_bytes lent b' (n + 1) ≡ memory_after tape_stores (lent_bytes lent b n) (on_tape n b) (room_on n b) r
+    put_is_stored lent = rw (put, is_added)
+
+-- the statements rs are stored, one after the other, behind the bytes p
+stored_behind : (lent : GName) (b p : List ℕ) (n : ℕ) (rs : List Record) → length p ≡ 20 * n → fold tape_stores (lent_bytes lent (p ++ drop (20 * n) b) n) rs ≡ lent_bytes lent (p ++ flat_map packed rs ++ drop (20 * (n + length rs)) b) (n + length rs)
+stored_behind lent b p n [] whole = let count : n + 0 ≡ n = omega arith in simp (append-nil, count)
+stored_behind lent b p n (r ∷ rs) whole =
+    let c = packed r in
+    let front = take_at p (drop (20 * n) b) (20 * n) whole in
+    let rest = drop-append-drop (20 * n) b p (20 * n + 20) (omega arith) whole in
+    let next : 20 * n + 20 ≡ 20 * (n + 1) = omega arith in
+    let bytes : replaced n (p ++ drop (20 * n) b) c ≡ p ++ c ++ drop (20 * (n + 1)) b =
+    rw (front, rest, next) (sym (append_assoc p c (drop (20 * (n + 1)) b))) in
+    let longer : length (p ++ c) ≡ 20 * (n + 1) = omega (arith, length-append p c, length_packed r) in
+    let count : n + 1 + length rs ≡ n + suc (length rs) = omega arith in
+    ap (λ (y : List ℕ). fold tape_stores (lent_bytes lent y (n + 1)) rs) bytes
+    ∙ stored_behind lent b (p ++ c) (n + 1) rs longer
+    ∙ rw (append_assoc p c (flat_map packed rs), count)
+
+-- all that a tape which was empty stores stands at its start
+pub stored_at_start : (lent : GName) (b : List ℕ) (rs : List Record) → fold tape_stores (lent_bytes lent b 0) rs ≡ lent_bytes lent (with_packed rs b) (length rs)
+stored_at_start lent b rs = let count = zero-add (length rs) in rw (← count) (stored_behind lent b [] 0 rs refl)

@@ -13,7 +13,7 @@
 --   with_packed rs b      — b with the statements rs packed at its start, end to end
 use Rattle.std.specs.Prelude.{ℕ, ◌+◌, ◌-◌, ◌*◌, min, Bool, List, ◌++◌, length, map, take, drop}
 use Rattle.std.specs.Borrow.{GName}
-use Rattle.std.specs.List.{concat, range_with_len}
+use Rattle.std.specs.List.{flat_map, range_with_len}
 use Rattle.std.specs.Str.{bytes_eq}
 use Rattle.record.specs.Packed.{packed}
 use Rattle.record.specs.Tapes.{places, place}
@@ -58,4 +58,4 @@ abbrev pub tape_stores : TapeMemory → Record → TapeMemory
 tape_stores m r = record { lent = m.lent; bytes = replaced m.used m.bytes (packed r); used = m.used + 1 }
 
 abbrev pub with_packed : List Record → List ℕ → List ℕ
-with_packed rs b = concat (map packed rs) ++ drop (20 * length rs) b
+with_packed rs b = flat_map packed rs ++ drop (20 * length rs) b

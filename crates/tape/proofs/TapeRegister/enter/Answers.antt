@@ -1,9 +1,9 @@
-use Rattle.std.proofs.Common.{◌≡◌, ◌<◌, true, false, refl, rules}
+use Rattle.std.proofs.Common.{◌≡◌, ◌<◌, true, false, rules}
 use Rattle.record.specs.Layout.{keeps_layout}
 use Rattle.record.specs.Packed.{packed}
 use Rattle.record.specs.Tapes.{places}
 use Rattle.tape.specs.Tapes.{tape_held}
-use Rattle.tape.proofs.Places.{put_replaces, is_added, put_enters, put_is_entered}
+use Rattle.tape.proofs.Places.{put_replaces, is_added, put_enters, put_is_stored}
 use Rattle.tape.proofs.TapeRegister.enter.Goals as goal
 
 pub returns : goal.returns
@@ -17,7 +17,6 @@ returns c =
     let written = put_replaces t.used t.bytes.now c.copy_from_slice.new.self (packed r) bytes in
     record {
       entered = put_enters t.used t.bytes.now r room kept absent _ written;
+      memory = put_is_stored t.used t.bytes.now r room kept absent _ written t.bytes.ghost_name;
       unchanged = λ none. cc (is_added t.used t.bytes.now r room kept absent);
-      bytes = put_is_entered t.used t.bytes.now r room kept absent _ written;
-      lent = refl;
     }
