@@ -2,14 +2,15 @@
 --   run u V x cs       — the state after the calls cs, from the state x
 --   outcomes u V x cs  — what came of each of the calls cs, from the state x
 --   Enters u V x cs r  — one of the calls cs, made in turn from the state x, was granted and entered the statement r
+--   added_by u V x cs  — the statements that the calls cs, made in turn from the state x, added to the register, in order
 --   Life               — a life: the bench, whose open was granted, its service, the free places of its register at the opening, and the calls
 --   state_at y k       — the state of the life y after its open and k calls
 --   outcomes_of y      — what came of the calls of the life y, one after the other
-use Rattle.std.specs.Prelude.{◌≡◌, ℕ, true, ◌⊎◌, List, [], ◌∷◌, take, Some, Ok}
+use Rattle.std.specs.Prelude.{◌≡◌, ℕ, true, ◌⊎◌, List, [], ◌∷◌, ◌++◌, take, Some, Ok}
 use Rattle.record.specs.declared.Record.{Record}
 use Rattle.protocol.specs.Setup.{Setup}
 use Rattle.protocol.specs.Service.{Service}
-use Rattle.protocol.specs.State.{State, opened}
+use Rattle.protocol.specs.State.{State, added_to, opened}
 use Rattle.protocol.specs.Open.{open_grounds}
 use Rattle.protocol.specs.Call.{Call, Outcome, meaning}
 
@@ -21,6 +22,10 @@ module _ (u : Setup) (V : Service) where
   abbrev pub outcomes : State → List Call → List Outcome
   outcomes x [] = []
   outcomes x (c ∷ cs) = (meaning u V x c).outcome ∷ outcomes (meaning u V x c).after cs
+
+  abbrev pub added_by : State → List Call → List Record
+  added_by x [] = []
+  added_by x (c ∷ cs) = added_to x (meaning u V x c).entry ++ added_by (meaning u V x c).after cs
 
   abbrev pub Enters : State → List Call → Record → Type 0
   Enters x [] r = ⊥

@@ -9,13 +9,14 @@
 --   answer_to x a       — what the call a answers: the first of its grounds, then the register's
 --   held_with x o       — the set of the register after the statement o, if any, is entered
 --   free_with x o       — the number of its free places then
+--   added_to x o        — the statement o as a list, if there is one and the register adds it, else the empty list
 --   state_after x a     — the state after the call a: changed where it is granted, else as it was
 --   entry_of x a        — the statement that the call a enters, if it is granted and says one
 -- There is room for 16 replicas, as many as a bench can have.
-use Rattle.std.specs.Prelude.{ℕ, cond, List, [], replicate, is_ok, Some, None, Ok, Option, slice_index_or, slice_set}
+use Rattle.std.specs.Prelude.{ℕ, cond, List, [], ◌∷◌, replicate, is_ok, Some, None, Ok, Option, slice_index_or, slice_set}
 use Rattle.refusal.specs.Grounds.{Answer, and_then}
 use Rattle.record.specs.declared.Record.{Record}
-use Rattle.register.specs.Sets.{Set, nothing, entering, held_after, free_after}
+use Rattle.register.specs.Sets.{Set, nothing, adds, entering, held_after, free_after}
 use Rattle.replica.specs.Replicas.{still}
 use Rattle.replica.specs.declared.Replica.{Replica}
 
@@ -57,6 +58,10 @@ held_with x (Some r) = held_after x.held x.free r
 abbrev pub free_with : State → Option Record → ℕ
 free_with x None = x.free
 free_with x (Some r) = free_after x.held x.free r
+
+abbrev pub added_to : State → Option Record → List Record
+added_to x None = []
+added_to x (Some r) = cond (adds x.held x.free r) (r ∷ []) []
 
 abbrev pub state_after : State → Action → State
 state_after x a =
