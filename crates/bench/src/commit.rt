@@ -24,8 +24,9 @@ impl<'a, R: Register, S: Service> Bench<'a, R, S> {
     }
 
     /// Replica `replica` says COMMIT of a verdict that a quorum prepared for the slot. A no-op is sealed.
+    #[tactic(auto, using(register::proofs::Entering::adds_nothing))]
     pub fn commit(&mut self, replica: u64, slot: u64, verdict: Verdict) -> Result<(), Refusal>
-        ensures does { Does R.held R.free self.old (λ u x. commit u x replica slot verdict) result self.new }
+        ensures does { Does R.held R.free R.memory R.stores self.old (λ u x. commit u x replica slot verdict) result self.new }
         ensures service { self.new.service.now ≡ self.old.service.now }
     {
         self.may_commit(replica, slot, verdict)?;

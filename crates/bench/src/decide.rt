@@ -27,8 +27,9 @@ impl<'a, R: Register, S: Service> Bench<'a, R, S> {
     }
 
     /// Replica `replica`, the leader, says its DECISION on the slot.
+    #[tactic(auto, using(register::proofs::Entering::adds_nothing))]
     pub fn decide(&mut self, replica: u64, slot: u64, verdict: Verdict) -> Result<(), Refusal>
-        ensures does { Does R.held R.free self.old (λ u x. decide u x replica slot verdict) result self.new }
+        ensures does { Does R.held R.free R.memory R.stores self.old (λ u x. decide u x replica slot verdict) result self.new }
         ensures service { self.new.service.now ≡ self.old.service.now }
     {
         self.may_decide(replica, slot, verdict)?;

@@ -25,7 +25,7 @@ impl<'a, R: Register, S: Service> Bench<'a, R, S> {
 
     /// Replica `replica` says its answer for the slot at the end of its line, and appends an operation.
     pub fn deliver(&mut self, replica: u64, slot: u64) -> Result<(), Refusal>
-        ensures does { Does R.held R.free self.old (λ u x. deliver u (service_of S.fresh S.next S.answer (S.state self.old.service.now)) x replica slot) result self.new }
+        ensures does { Does R.held R.free R.memory R.stores self.old (λ u x. deliver u (service_of S.fresh S.next S.answer (S.state self.old.service.now)) x replica slot) result self.new }
         ensures kind { S.fresh (S.state self.new.service.now) ≡ S.fresh (S.state self.old.service.now) }
         ensures grounds { is_ok (deliver (setup_of self.old.setup) (service_of S.fresh S.next S.answer (S.state self.old.service.now)) (state_of R.held R.free self.old) replica slot).grounds ≡ false → self.new.service.now ≡ self.old.service.now }
     {

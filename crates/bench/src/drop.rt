@@ -25,7 +25,7 @@ impl<'a, R: Register, S: Service> Bench<'a, R, S> {
 
     /// Replica `replica` says DROP for the slot at the end of its line, for which its leader said FIND.
     pub fn drop(&mut self, replica: u64) -> Result<(), Refusal>
-        ensures does { Does R.held R.free self.old (λ u x. drop u x replica) result self.new }
+        ensures does { Does R.held R.free R.memory R.stores self.old (λ u x. drop u x replica) result self.new }
         ensures service { self.new.service.now ≡ self.old.service.now }
     {
         self.may_drop(replica)?;

@@ -32,7 +32,7 @@ impl<'a, R: Register, S: Service> Bench<'a, R, S> {
 
     /// Replica `replica` enters the view with a line for which a quorum said ENTRY.
     pub fn enter(&mut self, replica: u64, length: u64, word: u64, view: u64) -> Result<(), Refusal>
-        ensures does { Does R.held R.free self.old (λ u x. enter u x replica length word view) result self.new }
+        ensures does { Does R.held R.free R.memory R.stores self.old (λ u x. enter u x replica length word view) result self.new }
         ensures service { self.new.service.now ≡ self.old.service.now }
     {
         self.may_enter(replica, length, word, view)?;

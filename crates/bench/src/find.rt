@@ -25,7 +25,7 @@ impl<'a, R: Register, S: Service> Bench<'a, R, S> {
 
     /// Replica `replica`, the leader, looks for the operation of the slot at the end of its line, and says FIND.
     pub fn find(&mut self, replica: u64) -> Result<(), Refusal>
-        ensures does { Does R.held R.free self.old (λ u x. find u x replica) result self.new }
+        ensures does { Does R.held R.free R.memory R.stores self.old (λ u x. find u x replica) result self.new }
         ensures service { self.new.service.now ≡ self.old.service.now }
     {
         self.may_find(replica)?;

@@ -23,7 +23,7 @@ impl<'a, R: Register, S: Service> Bench<'a, R, S> {
 
     /// The foreign replica that signs the statement says it, whatever it is.
     pub fn forge(&mut self, statement: &Record) -> Result<(), Refusal>
-        ensures does { Does R.held R.free self.old (λ u x. forge u x statement.now) result self.new }
+        ensures does { Does R.held R.free R.memory R.stores self.old (λ u x. forge u x statement.now) result self.new }
         ensures service { self.new.service.now ≡ self.old.service.now }
     {
         self.may_forge(statement)?;

@@ -31,7 +31,7 @@ impl<'a, R: Register, S: Service> Bench<'a, R, S> {
 
     /// Replica `replica` leaves for the view `target`, and says VIEW-CHANGE.
     pub fn leave(&mut self, replica: u64, target: u64) -> Result<(), Refusal>
-        ensures does { Does R.held R.free self.old (λ u x. leave u x replica target) result self.new }
+        ensures does { Does R.held R.free R.memory R.stores self.old (λ u x. leave u x replica target) result self.new }
         ensures service { self.new.service.now ≡ self.old.service.now }
     {
         self.may_leave(replica, target)?;

@@ -28,8 +28,9 @@ impl<'a, R: Register, S: Service> Bench<'a, R, S> {
     }
 
     /// Replica `replica` takes up its leader's DECISION on the slot, and says PREPARE.
+    #[tactic(auto, using(register::proofs::Entering::adds_nothing))]
     pub fn prepare(&mut self, replica: u64, slot: u64, verdict: Verdict) -> Result<(), Refusal>
-        ensures does { Does R.held R.free self.old (λ u x. prepare u x replica slot verdict) result self.new }
+        ensures does { Does R.held R.free R.memory R.stores self.old (λ u x. prepare u x replica slot verdict) result self.new }
         ensures service { self.new.service.now ≡ self.old.service.now }
     {
         self.may_prepare(replica, slot, verdict)?;

@@ -35,7 +35,7 @@ impl<'a, R: Register, S: Service> Bench<'a, R, S> {
 
     /// Replica `replica` says its answer for a slot of its line that has an operation.
     pub fn reply(&mut self, replica: u64, slot: u64) -> Result<(), Refusal>
-        ensures does { Does R.held R.free self.old (λ u x. reply u (service_of S.fresh S.next S.answer (S.state self.old.service.now)) x replica slot) result self.new }
+        ensures does { Does R.held R.free R.memory R.stores self.old (λ u x. reply u (service_of S.fresh S.next S.answer (S.state self.old.service.now)) x replica slot) result self.new }
         ensures kind { S.fresh (S.state self.new.service.now) ≡ S.fresh (S.state self.old.service.now) }
         ensures grounds { is_ok (reply (setup_of self.old.setup) (service_of S.fresh S.next S.answer (S.state self.old.service.now)) (state_of R.held R.free self.old) replica slot).grounds ≡ false → self.new.service.now ≡ self.old.service.now }
     {

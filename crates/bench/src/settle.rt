@@ -26,7 +26,7 @@ impl<'a, R: Register, S: Service> Bench<'a, R, S> {
 
     /// Replica `replica` puts a verdict that a quorum committed for the slot into its line. A no-op is sealed.
     pub fn settle(&mut self, replica: u64, slot: u64, verdict: Verdict) -> Result<(), Refusal>
-        ensures does { Does R.held R.free self.old (λ u x. settle u x replica slot verdict) result self.new }
+        ensures does { Does R.held R.free R.memory R.stores self.old (λ u x. settle u x replica slot verdict) result self.new }
         ensures service { self.new.service.now ≡ self.old.service.now }
     {
         self.may_settle(replica, slot, verdict)?;

@@ -44,7 +44,7 @@ impl<'a, R: Register, S: Service> Bench<'a, R, S> {
 
     /// Replica `replica` says ENTRY for its target with the line that the picks merge to over a base, for
     /// which the target's leader said VIEW-START.
-    #[tactic(auto, using(crate::proofs::Entering::adds_nothing))]
+    #[tactic(auto, using(register::proofs::Entering::adds_nothing))]
     pub fn start(
         &mut self,
         replica: u64,
@@ -52,7 +52,7 @@ impl<'a, R: Register, S: Service> Bench<'a, R, S> {
         base_length: u64,
         base_word: u64,
     ) -> Result<(), Refusal>
-        ensures does { Does R.held R.free self.old (λ u x. start u x replica picks.now base_length base_word) result self.new }
+        ensures does { Does R.held R.free R.memory R.stores self.old (λ u x. start u x replica picks.now base_length base_word) result self.new }
         ensures service { self.new.service.now ≡ self.old.service.now }
     {
         let line = self.may_start(replica, picks, base_length, base_word)?;
