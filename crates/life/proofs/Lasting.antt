@@ -3,7 +3,7 @@ use Rattle.std.proofs.Common.{◌≡◌, ℕ, zero, suc, ◌<◌, ◌≤◌, tru
 use Rattle.std.proofs.lemmas.List.{length-map, length-take-le}
 use Rattle.std.proofs.lemmas.Bool.{ne_eqb}
 use Rattle.std.proofs.lemmas.Option.{slice_get_within}
-use Rattle.std.specs.List.{AllByRecursion, IsDistinct}
+use Rattle.std.specs.List.{AllByRecursion, IsDistinct, fold}
 use Rattle.std.proofs.lemmas.Map.Made.{AllPairs-from_IsDistinct}
 use Rattle.record.specs.Statements.{reply_by, commit_by}
 use Rattle.record.specs.declared.Record.{Record}
@@ -14,7 +14,7 @@ use Rattle.protocol.specs.Service.{Service}
 use Rattle.protocol.specs.State.{State, opened, opened_over}
 use Rattle.protocol.specs.Open.{open_grounds}
 use Rattle.protocol.specs.Call as rules
-use Rattle.protocol.specs.Life.{Life, run, state_at}
+use Rattle.protocol.specs.Life.{Life, run, state_at, added_by}
 use Rattle.protocol.proofs.Entries.{entered_of_held}
 use Rattle.protocol.proofs.Signing.{same_number}
 use Rattle.protocol.proofs.Ledger.{one_ledger, keeps_rules, refuses_own_or_full}
@@ -93,9 +93,9 @@ module _ (y : Life) (k : ℕ) where
   witnessed (rules.Enter i n z v) w W = absurd W
 
 module _ (u : Setup) (V : Service) (n : ℕ) (o : open_grounds u true ≡ Ok tt) (before after : List Turn) (z : State) where
-  lived_from_opened :
+  lived :
       Underway u V (opened n) (calls_of before) (length after) after z → Lived (life_of u V n before o) before after z
-  lived_from_opened U =
+  lived U =
       let y = life_of u V n before o in
       record {
         calls = U.calls;
@@ -111,36 +111,46 @@ module _ (u : Setup) (V : Service) (n : ℕ) (o : open_grounds u true ≡ Ok tt)
         ledger = one_ledger y;
       }
 
-  lived :
-      (s : Set) → Emptiness s true
-      → Underway u V (opened_over s n) (calls_of before) (length after) after z
-      → Lived (life_of u V n before o) before after z
-  lived s E U =
-      lived_from_opened
-      (subst
-      (λ h. Underway u V (opened_over h n) (calls_of before) (length after) after z)
-      (empty_set s E) U)
-
--- what is known once every call was made on a new bench
+-- a bench b was opened over the register r, and the service t
 module _
     {R S A : Type 0} (held : R → Set) (free : R → ℕ) (state : S → A) (fresh : A → A) (next : A → ℕ → A)
-    (answer : A → ℕ → ℕ)
+    (answer : A → ℕ → ℕ) (u : Setup) (r : R) (t : S) (b : Bench R S)
   where
+    abbrev service_in : S → Service
+    service_in q = service_of fresh next answer (state q)
+
+    -- what is known with the bench's own setup, service and state is known with what it was opened with
+    from_open :
+        (P : Setup → Service → State → Type 0) → OpenGranted u (held r) → Opened held free u r b → b.service.now ≡ t
+        → P (setup_of b.setup) (service_in b.service.now) (state_of held free b) → P u (service_in t) (opened (free r))
+    from_open P G O f p =
+        let n = free r in
+        subst (λ v. P v (service_in t) (opened n)) O.setup
+        (subst (λ q. P (setup_of b.setup) (service_in q) (opened n)) f
+        (subst (λ s. P (setup_of b.setup) (service_in b.service.now) (opened_over s n)) (empty_set (held r) G.empty)
+        (subst (P (setup_of b.setup) (service_in b.service.now)) O.state p)))
+
+    -- every call was made on it, and the bench is c then
     pub ran :
-        (u : Setup) (r : R) (t : S) (b c : Bench R S) (before after : List Turn) (z : State)
+        (c : Bench R S) (before after : List Turn) (z : State)
         → OpenGranted u (held r) → Opened held free u r b → b.service.now ≡ t
-        → Underway (setup_of b.setup) (service_of fresh next answer (state b.service.now)) (state_of held free b)
-        (calls_of before) (length after) after (state_of held free c)
+        → Underway (setup_of b.setup) (service_in b.service.now) (state_of held free b) (calls_of before) (length after) after (state_of held free c)
         → state_of held free c ≡ z
-        → Ran u (service_of fresh next answer (state t)) (held r) (free r) before after z
-    ran u r t b c before after z G O f U h =
-        let V = service_of fresh next answer in
-        let end = λ (v : Setup) (q : S) (x : State).
-        Underway v (V (state q)) x (calls_of before) (length after) after z in
-        let opening = opened_over (held r) (free r) in
-        let here =
-        subst (Underway (setup_of b.setup) (V (state b.service.now)) (state_of held free b) (calls_of before) (length after) after) h U in
-        let over = subst (end (setup_of b.setup) b.service.now) O.state here in
-        let fed = subst (λ q. end (setup_of b.setup) q opening) f over in
-        let checked = subst (λ v. end v t opening) O.setup fed in
-        record { granted = G; lived = lived u (V (state t)) (free r) G.grounds before after z (held r) G.empty checked }
+        → Ran u (service_in t) (held r) (free r) before after z
+    ran c before after z G O f U h =
+        let made = from_open (λ v V x. Underway v V x (calls_of before) (length after) after (state_of held free c)) G O f U in
+        record {
+          granted = G;
+          lived = lived u (service_in t) (free r) G.grounds before after z (subst (Underway u (service_in t) (opened (free r)) (calls_of before) (length after) after) h made);
+        }
+
+    pub stored :
+        {M : Type 0} (memory : R → M) (stores : M → Record → M) (c : Bench R S) (cs : List rules.Call) (q : R)
+        → OpenGranted u (held r) → Opened held free u r b → b.service.now ≡ t
+        → memory c.register.now ≡ fold stores (memory b.register.now) (added_by (setup_of b.setup) (service_in b.service.now) (state_of held free b) cs)
+        → c.register.now ≡ q
+        → memory q ≡ fold stores (memory r) (added_by u (service_in t) (opened (free r)) cs)
+    stored memory stores c cs q G O f h e =
+        let all = fold stores (memory b.register.now) in
+        let made = from_open (λ v V x. memory c.register.now ≡ all (added_by v V x cs)) G O f h in
+        sym (ap memory e) ∙ made ∙ ap (λ p. fold stores (memory p) (added_by u (service_in t) (opened (free r)) cs)) O.register

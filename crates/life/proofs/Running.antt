@@ -1,16 +1,21 @@
 -- A life while it runs: the first calls are made, and the others are still to be made.
-use Rattle.std.proofs.Common.{◌≡◌, ℕ, zero, suc, ◌+◌, ◌<◌, List, [], ◌∷◌, length, get_or, set, take, Some, slice_get, option_map, sym, refl, ap, ◌∙◌, subst, inl, inr, arith}
+use Rattle.std.proofs.Common.{◌≡◌, ℕ, zero, suc, ◌+◌, ◌<◌, true, false, cond, List, [], ◌∷◌, ◌++◌, length, get_or, set, take, Some, None, Option, slice_get, option_map, sym, refl, ap, ◌∙◌, subst, inl, inr, arith}
 use Rattle.std.proofs.Math.Numerals.{suc-eq-add-one}
-use Rattle.std.proofs.Math.Seq.{map-set_same}
+use Rattle.std.proofs.Math.Seq.{map-set_same, take-length}
+use Rattle.std.specs.List.{fold}
 use Rattle.std.proofs.lemmas.Bool.{cases_lt}
+use Rattle.std.proofs.lemmas.List.{append_assoc, append-nil, length-map}
+use Rattle.std.proofs.lemmas.List.Sums.{fold-append}
 use Rattle.std.proofs.lemmas.Option.{slice_get-get_or, slice_get-map}
 use Rattle.service.specs.Operations.{after}
+use Rattle.record.specs.declared.Record.{Record}
+use Rattle.register.specs.Sets.{adds}
 use Rattle.protocol.specs.Setup.{Setup}
 use Rattle.protocol.specs.Service.{Service}
-use Rattle.protocol.specs.State.{State}
+use Rattle.protocol.specs.State.{State, added_to}
 use Rattle.protocol.specs.Call as rules
-use Rattle.protocol.specs.Life.{run, outcomes}
-use Rattle.bench.specs.States.{service_of}
+use Rattle.protocol.specs.Life.{run, outcomes, added_by}
+use Rattle.bench.specs.States.{service_of, memory_with}
 use Rattle.bench.specs.declared.open.Bench.{Bench}
 use Rattle.life.specs.Calls.{call_of, told}
 use Rattle.life.specs.Making.{Backs, Makes, Keeps, Made, Underway}
@@ -41,6 +46,19 @@ module _ (u : Setup) (V : Service) where
   run_one (d ∷ cs) zero x c e = let s : d ≡ c = cc in ap (λ z. (rules.meaning u V x z).after) s
   run_one (d ∷ cs) (suc k) x c e = run_one cs k (rules.meaning u V x d).after c e
 
+  added_one :
+      (cs : List rules.Call) (k : ℕ) (x : State) (c : rules.Call) → slice_get cs k ≡ Some c
+      → added_by u V x (take (suc k) cs)
+      ≡ added_by u V x (take k cs) ++ added_to (run u V x (take k cs)) (rules.meaning u V (run u V x (take k cs)) c).entry
+  added_one [] k x c e = cc
+  added_one (d ∷ cs) zero x c e =
+      let s : d ≡ c = cc in append-nil (added_to x (rules.meaning u V x d).entry) ∙ ap (λ z. added_to x (rules.meaning u V x z).entry) s
+  added_one (d ∷ cs) (suc k) x c e =
+      let y = (rules.meaning u V x d).after in
+      let here = added_to x (rules.meaning u V x d).entry in
+      ap (λ rs. here ++ rs) (added_one cs k y c e)
+      ∙ sym (append_assoc here (added_by u V y (take k cs)) (added_to (run u V y (take k cs)) (rules.meaning u V (run u V y (take k cs)) c).entry))
+
   outcome_of :
       (cs : List rules.Call) (k : ℕ) (x : State) (c : rules.Call) → slice_get cs k ≡ Some c
       → slice_get (outcomes u V x cs) k ≡ Some (rules.meaning u V (run u V x (take k cs)) c).outcome
@@ -54,13 +72,24 @@ module _ {A : Type 0} (fresh : A → A) (next : A → ℕ → A) (answer : A →
   service_alike : (s t : A) → fresh s ≡ fresh t → service_of fresh next answer s ≡ service_of fresh next answer t
   service_alike s t e = let V : A → Service = λ a ops op. answer (after next a ops) op in ap V e
 
-  pub makes_alike :
-      (u v : Setup) (s t : A) (x y : State) (c : rules.Call) (o : Outcome) → v ≡ u → fresh t ≡ fresh s
-      → Makes v (service_of fresh next answer t) x c o y
-      → Makes u (service_of fresh next answer s) x c o y
-  makes_alike u v s t x y c o e k M =
-      subst (λ w. Makes w (service_of fresh next answer s) x c o y) e
-      (subst (λ V. Makes v V x c o y) (service_alike t s k) M)
+  alike :
+      (u v : Setup) (s t : A) → v ≡ u → fresh t ≡ fresh s → (P : Setup → Service → Type 0)
+      → P v (service_of fresh next answer t)
+      → P u (service_of fresh next answer s)
+  alike u v s t e k P p =
+      subst (λ w. P w (service_of fresh next answer s)) e (subst (P v) (service_alike t s k) p)
+
+  module _ (u v : Setup) (s t : A) (x : State) (c : rules.Call) (e : v ≡ u) (k : fresh t ≡ fresh s) where
+    pub makes_alike :
+        (o : Outcome) (y : State) → Makes v (service_of fresh next answer t) x c o y
+        → Makes u (service_of fresh next answer s) x c o y
+    makes_alike o y = alike u v s t e k (λ w V. Makes w V x c o y)
+
+    pub stores_alike :
+        {M : Type 0} (stores : M → Record → M) (m m' : M)
+        → m' ≡ memory_with stores m x (rules.meaning v (service_of fresh next answer t) x c).entry
+        → m' ≡ memory_with stores m x (rules.meaning u (service_of fresh next answer s) x c).entry
+    stores_alike stores m m' = alike u v s t e k (λ w V. m' ≡ memory_with stores m x (rules.meaning w V x c).entry)
 
 pub keeps_on :
     {R S A : Type 0} (kind_of : S → A) (a b c : Bench R S) → Keeps kind_of a b → Keeps kind_of b c → Keeps kind_of a c
@@ -73,6 +102,14 @@ keeps_on kind_of a b c K L =
     }
 
 module _ (u : Setup) (V : Service) (x : State) (cs : List rules.Call) where
+  call_at :
+      (k : ℕ) (ts : List Turn) (d : Turn) (y : State) → Underway u V x cs k ts y → k < length ts
+      → slice_get cs k ≡ Some (call_of (get_or ts k d).call)
+  call_at k ts d y U h =
+      subst (λ ds. slice_get ds k ≡ Some (call_of (get_or ts k d).call)) U.calls
+      (slice_get-map (λ (a : Turn). call_of a.call) ts k
+      ∙ ap (option_map (λ (a : Turn). call_of a.call)) (slice_get-get_or ts k d h))
+
   pub underway_further :
       (k : ℕ) (ts : List Turn) (d : Turn) (y z : State) (o : Outcome) → Underway u V x cs k ts y → k < length ts
       → Makes u V y (call_of (get_or ts k d).call) o z
@@ -81,10 +118,7 @@ module _ (u : Setup) (V : Service) (x : State) (cs : List rules.Call) where
       let t = get_or ts k d in
       let c = call_of t.call in
       let s : Turn = record { call = t.call; outcome = Some o } in
-      let at : slice_get cs k ≡ Some c =
-      subst (λ ds. slice_get ds k ≡ Some c) U.calls
-      (slice_get-map (λ (a : Turn). call_of a.call) ts k
-      ∙ ap (option_map (λ (a : Turn). call_of a.call)) (slice_get-get_or ts k d h)) in
+      let at = call_at k ts d y U h in
       let from = λ (P : State → Type 0). subst P U.state in
       record {
         calls = map-set_same (λ (a : Turn). call_of a.call) ts k s d refl ∙ U.calls;
@@ -107,3 +141,37 @@ module _ (u : Setup) (V : Service) (x : State) (cs : List rules.Call) where
             ∙ sym (run_one u V cs k x c at)
             ∙ ap (λ n. run u V x (take n cs)) (suc-eq-add-one k);
       }
+
+  -- ---- the register's memory
+
+  module _ {M : Type 0} (stores : M → Record → M) where
+    stored_to : (m : M) (y : State) (o : Option Record) → memory_with stores m y o ≡ fold stores m (added_to y o)
+    stored_to m y None = refl
+    stored_to m y (Some r) =
+        elim (adds y.held y.free r) as (λ b. cond b (stores m r) m ≡ fold stores m (cond b (r ∷ []) [])) [ true ↦ refl | false ↦ refl ]
+
+    pub stored_further :
+        (m m' m'' : M) (k : ℕ) (ts : List Turn) (d : Turn) (y : State) → Underway u V x cs k ts y → k < length ts
+        → m' ≡ fold stores m (added_by u V x (take k cs))
+        → m'' ≡ memory_with stores m' y (rules.meaning u V y (call_of (get_or ts k d).call)).entry
+        → m'' ≡ fold stores m (added_by u V x (take (k + 1) cs))
+    stored_further m m' m'' k ts d y U h before now =
+        let c = call_of (get_or ts k d).call in
+        let w = run u V x (take k cs) in
+        let rs = added_by u V x (take k cs) in
+        let new = added_to w (rules.meaning u V w c).entry in
+        now
+        ∙ stored_to m' y (rules.meaning u V y c).entry
+        ∙ ap (λ z. fold stores m' (added_to z (rules.meaning u V z c).entry)) U.state
+        ∙ ap (λ z. fold stores z new) before
+        ∙ sym (fold-append stores m rs new)
+        ∙ ap (fold stores m) (sym (added_one u V cs k x c (call_at k ts d y U h)))
+        ∙ ap (λ n. fold stores m (added_by u V x (take n cs))) (suc-eq-add-one k)
+
+    pub stored_by_all :
+        (m m' : M) (k : ℕ) (ts : List Turn) (y : State) → Underway u V x cs k ts y → k ≡ length ts
+        → m' ≡ fold stores m (added_by u V x (take k cs))
+        → m' ≡ fold stores m (added_by u V x cs)
+    stored_by_all m m' k ts y U e h =
+        let all : k ≡ length cs = e ∙ sym (length-map ts (λ (a : Turn). call_of a.call)) ∙ ap length U.calls in
+        h ∙ ap (λ ds. fold stores m (added_by u V x ds)) (ap (λ n. take n cs) all ∙ take-length cs)
