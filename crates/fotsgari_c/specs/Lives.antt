@@ -2,8 +2,8 @@
 --   unless_refused a ks                    — the calls ks, unless a is the refusal of an open
 --   opening u a                            — the calls a, unless the open of a bench u over an empty register is refused
 --   asked u cs rs os                       — the calls of the life of a bench u that the calls cs and the records rs ask for, with the outcomes os to write to, or what is wrong with it
---   Told u V n b os z                      — the life of a bench u with the service V, over an empty register with n free places and with the turns b, was run, and os and z are what C was told of it
---   Ran a u V n os z                       — the same, with the calls a
+--   Told u V b t t' os z                   — the life of a bench u with the service V, over an empty register on the tape t and with the turns b, was run; the tape is t' now, and os and z are what C was told of it
+--   Ran a u V t t' os z                    — the same, with the calls a
 --   NothingWritten t os z t' os' z'        — a tape, outcomes and a status that held t, os and z hold t', os' and z' now, which are the same
 --   Turns u V b t os z r t' os' z'         — running the turns b on a bench u with the service V answered r, and what held t, os and z holds t', os' and z' now: the life ran, or its open was refused
 --   Fails a e t os z t' os' z'             — no life ran, since a is the fault e, or since e is a lack of memory, and nothing was written
@@ -15,12 +15,15 @@ use Rattle.refusal.specs.Grounds.{Answer}
 use Rattle.record.specs.declared.Record.{Record}
 use Rattle.record.specs.Tapes.{places}
 use Rattle.register.specs.Sets.{Set, nothing}
+use Rattle.tape.specs.Tapes.{with_packed}
 use Rattle.rating.specs.Rating.{rating_next, rating_answer}
 use Rattle.allotment.specs.Balances.{no_balances, allotment_next, allotment_answer}
 use Rattle.protocol.specs.Setup.{Setup}
 use Rattle.protocol.specs.Service.{Service}
+use Rattle.protocol.specs.State.{opened}
 use Rattle.protocol.specs.Open.{open_grounds}
 use Rattle.protocol.specs.Call as rules
+use Rattle.protocol.specs.Life.{added_by}
 use Rattle.bench.specs.States.{service_of}
 use Rattle.bench.specs.declared.status.Status as bench
 use Rattle.life.specs.Calls.{calls_of}
@@ -46,21 +49,25 @@ opening u (Err e) = Err e
 abbrev pub asked : Setup → List Call → List Record → List Outcome → Result (List rules.Call) Fault
 asked u cs rs os = cond (length os == length cs) (opening u (read_all rs cs)) (Err fault.Outcomes)
 
-pub record Told (u : Setup) (V : Service) (n : ℕ) (b : List Turn) (os' : List Outcome) (z' : Status) : Type 0 where
+pub record Told
+    (u : Setup) (V : Service) (b : List Turn) (t t' : List ℕ) (os' : List Outcome) (z' : Status) : Type 0 where
   -- the turns afterwards, what the bench kept, and the set and the free places of the register at the end
   pub after : List Turn
   pub kept : bench.Status
   pub held : Set
   pub free : ℕ
-  pub runs : Runs u V nothing n b (Ok kept) after held free
+  pub runs : Runs u V nothing (places t) b (Ok kept) after held free
+  -- the statements that its calls added stand packed at the start of the tape, in order; the bytes behind them are as they were
+  pub tape : t' ≡ with_packed (added_by u V (opened (places t)) (calls_of b)) t
   pub outcomes : os' ≡ map (λ t. outcome_of t.outcome) after
   pub status : z' ≡ status_of kept
 
 pub record Ran
-    (a : Result (List rules.Call) Fault) (u : Setup) (V : Service) (n : ℕ) (os' : List Outcome) (z' : Status) : Type 0 where
+    (a : Result (List rules.Call) Fault) (u : Setup) (V : Service) (t t' : List ℕ) (os' : List Outcome) (z' : Status)
+    : Type 0 where
   pub turns : List Turn
   pub calls : a ≡ Ok (calls_of turns)
-  pub told : Told u V n turns os' z'
+  pub told : Told u V turns t t' os' z'
 
 pub record NothingWritten
     (t : List ℕ) (os : List Outcome) (z : Status) (t' : List ℕ) (os' : List Outcome) (z' : Status) : Type 0 where
@@ -70,7 +77,7 @@ pub record NothingWritten
 
 abbrev pub Turns :
     Setup → Service → List Turn → List ℕ → List Outcome → Status → Answer → List ℕ → List Outcome → Status → Type 0
-Turns u V b t os z (Ok _) t' os' z' = Told u V (places t) b os' z'
+Turns u V b t os z (Ok _) t' os' z' = Told u V b t t' os' z'
 Turns u V b t os z (Err e) t' os' z' = (open_grounds u true ≡ Err e) × NothingWritten t os z t' os' z'
 
 pub record Fails
@@ -83,13 +90,13 @@ pub record Fails
 abbrev pub Comes :
     Setup → Service → List Call → List Record → List ℕ → List Outcome → Status → Result (Unit {0}) Fault → List ℕ
     → List Outcome → Status → Type 0
-Comes u V cs rs t os z (Ok _) t' os' z' = Ran (asked u cs rs os) u V (places t) os' z'
+Comes u V cs rs t os z (Ok _) t' os' z' = Ran (asked u cs rs os) u V t t' os' z'
 Comes u V cs rs t os z (Err e) t' os' z' = Fails (asked u cs rs os) e t os z t' os' z'
 
 abbrev pub Answers :
     Setup → Service → List Call → List Record → List ℕ → List Outcome → Status → ℕ → List ℕ → List Outcome → Status → Type 0
 Answers u V cs rs t os z n t' os' z' =
-    ((n ≡ 0) × Ran (asked u cs rs os) u V (places t) os' z')
+    ((n ≡ 0) × Ran (asked u cs rs os) u V t t' os' z')
     ⊎ ((e : Fault) × ((n ≡ fault_number e) × Fails (asked u cs rs os) e t os z t' os' z'))
 
 abbrev pub rating : Service
