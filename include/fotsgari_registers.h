@@ -35,20 +35,25 @@ enum fotsgari_step_outcome {
 struct fotsgari_step {
     struct fotsgari_record statement;
     uint8_t number;   /* any number is allowed */
-    uint8_t replicas; /* count: how many replicas there are, numbered from 0 */
+    uint8_t replicas; /* count: how many replicas there are, numbered from 0; any number is allowed */
     uint8_t outcome;  /* written */
     uint8_t value;    /* written: refused, the number of the ground; counted, how many; else 0 */
 };
 
-/* Each makes the steps in their turn on a register that is empty at first: over the tape, over the
- * table, or a spare sheet of 16 places over the tape. What memory held before does not matter. */
+/* Each makes the steps in their turn on a register that is empty at first. A step's statement, number
+ * and replicas stay as they are. */
+
+/* Over the tape, with a place for each whole 20 bytes, whatever it holds. The statements that the steps
+ * add stand packed at its start then, in order; the other bytes are as they were. */
 void fotsgari_use_tape(uint8_t *tape, size_t tape_length, struct fotsgari_step *steps, size_t steps_length);
 
+/* Over the table, with a place for each record, whatever it holds. The statements that the steps add
+ * stand in its first places then, in order; the other records are as they were. */
 void fotsgari_use_table(
     struct fotsgari_record *table, size_t table_length, struct fotsgari_step *steps, size_t steps_length);
 
-void fotsgari_use_sheet_on_tape(
-    uint8_t *tape, size_t tape_length, struct fotsgari_step *steps, size_t steps_length);
+/* A register with 32 places of its own: two spare sheets, one laid over the other. */
+void fotsgari_use_sheets(struct fotsgari_step *steps, size_t steps_length);
 
 #ifdef __cplusplus
 }

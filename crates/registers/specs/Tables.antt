@@ -5,7 +5,8 @@
 --   TableMemory       — which memory is lent, the records in it, and how many places of it are used
 --   table_memory t    — the memory of t
 --   table_stores m r  — the memory m, with r at the lowest free place
-use Rattle.std.specs.Prelude.{ℕ, ◌+◌, List, take, slice_set}
+--   with_first rs ys  — the places ys with the statements rs in the first of them
+use Rattle.std.specs.Prelude.{ℕ, ◌+◌, List, ◌++◌, length, take, drop, slice_set}
 use Rattle.std.specs.Borrow.{GName}
 use Rattle.record.specs.declared.Record.{Record}
 use Rattle.register.specs.Sets.{Set}
@@ -31,3 +32,6 @@ table_memory t = record { lent = t.places.ghost_name; places = t.places.now; use
 
 abbrev pub table_stores : TableMemory → Record → TableMemory
 table_stores m r = record { lent = m.lent; places = slice_set m.places m.used r; used = m.used + 1 }
+
+abbrev pub with_first : List Record → List Record → List Record
+with_first rs ys = rs ++ drop (length rs) ys

@@ -6,13 +6,16 @@
 --   Came s n t o v        — the step t came to the outcome o and the value v
 --   held_then s n t       — the set after the step t
 --   free_then s n t       — the number of free places after it
+--   added_here s n t      — the statement that the step t adds, if it adds one
+--   added_by s n ts       — the statements that the steps ts, made in turn, add, in order
 --   made t o v            — the step t with the outcome o and the value v
 --   Made s n t t'         — the step t was made, and is t' with what came of it
 --   Uses s n ts us s' n' — the steps ts were made in turn, and are us with what came of them; s' and n' are the set and the number of free places then
 --   UsesEmpty n ts us     — the same, from an empty register with n free places
-use Rattle.std.specs.Prelude.{◌≡◌, ℕ, Bool, cond, MatchBool, List, [], ◌∷◌, Ok, Err, ◌==◌}
+use Rattle.std.specs.Prelude.{◌≡◌, ℕ, Bool, cond, MatchBool, List, [], ◌∷◌, ◌++◌, Ok, Err, ◌==◌}
 use Rattle.refusal.specs.Grounds.{Answer, ground_number}
-use Rattle.register.specs.Sets.{Set, nothing, Emptiness, entering, held_after, free_after}
+use Rattle.record.specs.declared.Record.{Record}
+use Rattle.register.specs.Sets.{Set, nothing, Emptiness, entering, adds, held_after, free_after}
 use Rattle.quorum.specs.Quorums.{count, said}
 use Rattle.registers_c.specs.declared.step.Step.{Step}
 
@@ -53,6 +56,13 @@ held_then s n t = cond (t.number == 3) (held_after s n t.statement) s
 
 abbrev pub free_then : Set → ℕ → Step → ℕ
 free_then s n t = cond (t.number == 3) (free_after s n t.statement) n
+
+abbrev pub added_here : Set → ℕ → Step → List Record
+added_here s n t = cond (t.number == 3) (cond (adds s n t.statement) (t.statement ∷ []) []) []
+
+abbrev pub added_by : Set → ℕ → List Step → List Record
+added_by s n [] = []
+added_by s n (t ∷ ts) = added_here s n t ++ added_by (held_then s n t) (free_then s n t) ts
 
 abbrev pub made : Step → ℕ → ℕ → Step
 made t o v = record { statement = t.statement; number = t.number; replicas = t.replicas; outcome = o; value = v }

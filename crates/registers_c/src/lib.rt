@@ -1,10 +1,13 @@
-//! Registers for C: steps on an empty register, over a tape of the caller's bytes or a table of its
-//! records.
+//! Registers for C: steps on an empty register, over a tape of the caller's bytes, over a table
+//! of its records, or with places of its own.
 #![tactic(auto)]
 
-ghost use Rattle.std.specs.Prelude.{◌+◌, length};
+ghost use Rattle.std.specs.Prelude.{◌≡◌, length};
 ghost use Rattle.record.specs.Tapes.{places};
-ghost use Rattle.registers_c.specs.Steps.{UsesEmpty};
+ghost use Rattle.register.specs.Sets.{nothing};
+ghost use Rattle.registers.specs.Tables.{with_first};
+ghost use Rattle.tape.specs.Tapes.{with_packed};
+ghost use Rattle.registers_c.specs.Steps.{added_by, UsesEmpty};
 
 mod step;
 
@@ -14,26 +17,32 @@ use registers::{SpareSheet, Table};
 pub use step::Step;
 use tape::Tape;
 
-/// Makes the steps on an empty register over the tape.
+/// Makes the steps on an empty register over the tape. The statements that they add stand packed at
+/// its start, in order; the other bytes are as they were.
 #[unsafe(no_mangle)]
 pub extern "C" fn fotsgari_use_tape(tape: &mut [u8], steps: &mut [Step])
-    ensures { UsesEmpty (places tape.old) steps.old steps.new }
+    ensures steps { UsesEmpty (places tape.old) steps.old steps.new }
+    ensures tape { tape.new ≡ with_packed (added_by nothing (places tape.old) steps.old) tape.old }
 {
     use_register(&mut Tape::new(tape), steps);
 }
 
-/// Makes the steps on an empty register over the table.
+/// Makes the steps on an empty register over the table. The statements that they add stand in its
+/// first places, in order; the others are as they were.
 #[unsafe(no_mangle)]
 pub extern "C" fn fotsgari_use_table(table: &mut [Record], steps: &mut [Step])
-    ensures { UsesEmpty (length table.old) steps.old steps.new }
+    ensures steps { UsesEmpty (length table.old) steps.old steps.new }
+    ensures table { table.new ≡ with_first (added_by nothing (length table.old) steps.old) table.old }
 {
     use_register(&mut Table::new(table), steps);
 }
 
-/// Makes the steps on a spare sheet that is laid over an empty register over the tape.
+/// Makes the steps on an empty register of 32 places of its own: two spare sheets over a table
+/// without a place.
 #[unsafe(no_mangle)]
-pub extern "C" fn fotsgari_use_sheet_on_tape(tape: &mut [u8], steps: &mut [Step])
-    ensures { UsesEmpty (places tape.old + 16) steps.old steps.new }
+pub extern "C" fn fotsgari_use_sheets(steps: &mut [Step])
+    ensures { UsesEmpty 32 steps.old steps.new }
 {
-    use_register(&mut SpareSheet::new(Tape::new(tape)), steps);
+    let table = Table::new(&mut []);
+    use_register(&mut SpareSheet::new(SpareSheet::new(table)), steps);
 }

@@ -1,6 +1,7 @@
 //! Steps on a register.
 ghost use Rattle.std.specs.Prelude.{◌≡◌, cond};
-ghost use Rattle.registers_c.specs.Steps.{entered_outcome, entered_value, Came, held_then, free_then, Uses};
+ghost use Rattle.std.specs.List.{fold};
+ghost use Rattle.registers_c.specs.Steps.{added_here, added_by, entered_outcome, entered_value, Came, held_then, free_then, Uses};
 
 use quorum::count;
 use record::Record;
@@ -45,6 +46,7 @@ fn make<R: Register>(register: &mut R, step: &Step) -> (u8, u8)
     ensures came { Came (R.held register.old) (R.free register.old) step.now result.0 result.1 }
     ensures held { R.held register.new ≡ held_then (R.held register.old) (R.free register.old) step.now }
     ensures free { R.free register.new ≡ free_then (R.held register.old) (R.free register.old) step.now }
+    ensures memory { R.memory register.new ≡ fold R.stores (R.memory register.old) (added_here (R.held register.old) (R.free register.old) step.now) }
 {
     match step.number {
         1 => answered(register.ask(&step.statement)),
@@ -57,7 +59,8 @@ fn make<R: Register>(register: &mut R, step: &Step) -> (u8, u8)
 
 // Makes every step in its turn.
 pub(crate) fn use_register<R: Register>(register: &mut R, steps: &mut [Step])
-    ensures { Uses (R.held register.old) (R.free register.old) steps.old steps.new (R.held register.new) (R.free register.new) }
+    ensures uses { Uses (R.held register.old) (R.free register.old) steps.old steps.new (R.held register.new) (R.free register.new) }
+    ensures memory { R.memory register.new ≡ fold R.stores (R.memory register.old) (added_by (R.held register.old) (R.free register.old) steps.old) }
 {
     for step in steps.iter_mut() {
         let (outcome, value) = make(register, step);
