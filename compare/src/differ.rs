@@ -1,0 +1,110 @@
+//! What differs between what the library left of a life and what the twin left.
+
+use crate::abi::{Call, Outcome, Record, Replica, Status, YES};
+use crate::generate::number;
+use crate::lives::{Life, Ran};
+use crate::twin::record::PLACE;
+
+/// Every difference, each in words. There is one for each outcome, replica, operation and byte of
+/// the tape that differs.
+pub fn differences(life: &Life, before: &Ran, ours: &Ran, twin: &Ran) -> Vec<String> {
+    let mut found = Vec::new();
+    if ours.answer != twin.answer {
+        found.push(format!("answer {}, by the twin {}", ours.answer, twin.answer));
+    } else if ours.answer == 0 {
+        compare_outcomes(life, ours, twin, &mut found);
+        compare_status(&ours.status.values()[0], &twin.status.values()[0], &mut found);
+        compare_bytes("tape", &ours.tape, &twin.tape, &mut found);
+    } else {
+        compare_bytes("tape of no life", &ours.tape, &before.tape, &mut found);
+        compare_words("outcomes of no life", ours.outcomes.words(), before.outcomes.words(), &mut found);
+        compare_words("status of no life", ours.status.words(), before.status.words(), &mut found);
+    }
+    found
+}
+
+fn compare_outcomes(life: &Life, ours: &Ran, twin: &Ran, found: &mut Vec<String>) {
+    let pairs = ours.outcomes.values().iter().zip(twin.outcomes.values());
+    for (place, (our, other)) in pairs.enumerate() {
+        let alike = (our.kind, our.ground, our.place) == (other.kind, other.ground, other.place);
+        let seen = &life.outcomes[place];
+        let fault = witness_fault(life, place, our, &twin.tape)
+            .or_else(|| witness_fault(life, place, other, &twin.tape));
+        if !alike || other != seen || fault.is_some() {
+            let call = &life.calls[place];
+            found.push(format!(
+                "call {place}, {call:?}: {our:?}, by the twin {other:?}, by its bench {seen:?}; {}",
+                fault.unwrap_or("")
+            ));
+        }
+    }
+}
+
+/// What is wrong with the witnesses of an outcome, by what the twin's register held at that moment.
+fn witness_fault(life: &Life, place: usize, told: &Outcome, tape: &[u8]) -> Option<&'static str> {
+    let (n, q) = (3 * life.f + 1, 2 * life.f as usize + 1);
+    let (named, rest) = told.witnesses.split_at(if told.kind == YES { q } else { 0 });
+    if rest.iter().any(|&byte| byte != 0) {
+        return Some("a byte that is no witness is not 0");
+    }
+    let statement = asked(&life.calls[place])?;
+    let held = &tape[..life.used[place] * PLACE];
+    for (earlier, &witness) in named.iter().enumerate() {
+        let said = statement.by(witness).pack();
+        if u64::from(witness) >= n || named[..earlier].contains(&witness) {
+            return Some("a witness is n or more, or is named twice");
+        }
+        if !said.is_some_and(|said| held.chunks_exact(PLACE).any(|part| part == said)) {
+            return Some("a witness did not say it");
+        }
+    }
+    None
+}
+
+/// The statement that a certificate call asks for.
+pub fn asked(call: &Call) -> Option<Record> {
+    let [_, view, slot, word, result] = call.arguments;
+    match call.number {
+        number::ANSWER => Some(Record::reply(view as u8, slot as u8, word, result)),
+        number::NO_OP => Some(Record::commit(view as u8, slot as u8, true)),
+        _ => None,
+    }
+}
+
+fn compare_status(ours: &Status, twin: &Status, found: &mut Vec<String>) {
+    if ours.stamped != twin.stamped {
+        found.push(format!("stamped {}, by the twin {}", ours.stamped, twin.stamped));
+    }
+    for (slot, (our, other)) in ours.operations.iter().zip(&twin.operations).enumerate() {
+        if our != other {
+            found.push(format!("operation {slot} is {our:#x}, by the twin {other:#x}"));
+        }
+    }
+    let pairs: Vec<(&Replica, &Replica)> = ours.replicas.iter().zip(&twin.replicas).collect();
+    for (replica, (our, other)) in pairs.into_iter().enumerate() {
+        if our != other {
+            found.push(format!("replica {replica}: {our:?}, by the twin {other:?}"));
+        }
+    }
+}
+
+/// Compares bytes one by one.
+pub fn compare_bytes(name: &str, ours: &[u8], twin: &[u8], found: &mut Vec<String>) {
+    if ours == twin {
+        return;
+    }
+    for (place, (our, other)) in ours.iter().zip(twin).enumerate() {
+        if our != other {
+            found.push(format!("{name}: byte {place} is {our:#x} and not {other:#x}"));
+        }
+    }
+}
+
+/// Compares 8 bytes at a time.
+pub fn compare_words(name: &str, ours: &[u64], twin: &[u64], found: &mut Vec<String>) {
+    for (place, (our, other)) in ours.iter().zip(twin).enumerate() {
+        if our != other {
+            found.push(format!("{name}: word {place} is {our:#x} and not {other:#x}"));
+        }
+    }
+}

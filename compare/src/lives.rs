@@ -1,0 +1,70 @@
+//! A life with all that is handed over for it, and what a run of it leaves.
+
+use crate::abi::{Call, Given, Kind, Memory, Outcome, Record, Status, Written};
+use crate::random::Random;
+
+/// What is handed over for a life, and what its generator saw come of its calls.
+#[derive(Clone)]
+pub struct Life {
+    pub kind: Kind,
+    pub f: u64,
+    pub foreign: u64,
+    /// The tape before the life.
+    pub tape: Vec<u8>,
+    pub calls: Vec<Call>,
+    pub records: Vec<Record>,
+    /// How many outcomes there is room for.
+    pub room: usize,
+    /// What came of each call, and how many places of the tape were used after it.
+    pub outcomes: Vec<Outcome>,
+    pub used: Vec<usize>,
+}
+
+/// Who runs a life: the library or the twin.
+pub type Runner = fn(Given, Written) -> u8;
+
+/// The memory that a life writes to, and its answer.
+#[derive(Clone)]
+pub struct Ran {
+    pub answer: u8,
+    pub tape: Vec<u8>,
+    pub outcomes: Memory<Outcome>,
+    pub status: Memory<Status>,
+}
+
+impl Life {
+    pub fn given(&self) -> Given<'_> {
+        Given {
+            kind: self.kind,
+            f: self.f,
+            foreign: self.foreign,
+            calls: &self.calls,
+            records: &self.records,
+        }
+    }
+
+    /// The memory for a run as it is before: random bytes.
+    pub fn memory(&self, random: &mut Random) -> Ran {
+        Ran {
+            answer: 0,
+            tape: self.tape.clone(),
+            outcomes: Memory::new(self.room, || random.any()),
+            status: Memory::new(1, || random.any()),
+        }
+    }
+
+    /// Runs the life on a copy of this memory.
+    pub fn run(&self, before: &Ran, runner: Runner) -> Ran {
+        let mut ran = before.clone();
+        ran.answer = self.run_in(&mut ran, runner);
+        ran
+    }
+
+    /// Runs the life on this memory.
+    pub fn run_in(&self, ran: &mut Ran, runner: Runner) -> u8 {
+        let Ran { tape, outcomes, status, .. } = ran;
+        let written =
+            Written { tape, outcomes: outcomes.values_mut(), status: &mut status.values_mut()[0] };
+        runner(self.given(), written)
+    }
+}

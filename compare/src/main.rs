@@ -1,0 +1,68 @@
+//! Compares the static libraries for C with an implementation of their documents.
+
+mod abi;
+mod alter;
+mod check;
+mod differ;
+mod generate;
+mod lives;
+mod random;
+mod report;
+mod sequences;
+mod tally;
+mod twin;
+
+use std::process::ExitCode;
+
+use tally::Tally;
+
+const USAGE: &str = "options: --seed N, --calls N, --steps N, --life N (this one only)";
+
+/// What the arguments ask for.
+struct Options {
+    seed: u64,
+    calls: u64,
+    steps: u64,
+    life: Option<u64>,
+}
+
+fn options() -> Option<Options> {
+    let mut options = Options { seed: 1, calls: 3_000_000, steps: 3_000_000, life: None };
+    let mut arguments = std::env::args().skip(1);
+    while let Some(name) = arguments.next() {
+        let number = arguments.next()?.parse().ok()?;
+        match name.as_str() {
+            "--seed" => options.seed = number,
+            "--calls" => options.calls = number,
+            "--steps" => options.steps = number,
+            "--life" => options.life = Some(number),
+            _ => return None,
+        }
+    }
+    Some(options)
+}
+
+fn main() -> ExitCode {
+    let Some(options) = options() else {
+        eprintln!("{USAGE}");
+        return ExitCode::from(2);
+    };
+    if run(&options) { ExitCode::SUCCESS } else { ExitCode::FAILURE }
+}
+
+/// Does what is asked for; whether there was no difference and everything was reached.
+fn run(options: &Options) -> bool {
+    let mut tally = Tally::default();
+    if let Some(number) = options.life {
+        check::check_life(options.seed, number, &mut tally);
+        return tally.differences == 0;
+    }
+    println!("seed {}", options.seed);
+    let comparer = check::check_comparer(options.seed);
+    check::check_lives(options.seed, options.calls, &mut tally);
+    let reached = report::print_lives(&tally);
+    check::check_registers(options.seed, options.steps, &mut tally);
+    report::print_registers(&tally);
+    println!("\ndifferences: {}", tally.differences);
+    comparer && reached && tally.differences == 0
+}

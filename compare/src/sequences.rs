@@ -1,0 +1,130 @@
+//! Random sequences of steps on registers, and what differs after them.
+
+use crate::abi::{self, Memory, Record, Step};
+use crate::differ::{compare_bytes, compare_words};
+use crate::generate::{any_record, break_layout};
+use crate::random::Random;
+use crate::twin::record::PLACE;
+use crate::twin::steps::{self, ASK, COUNT, ENTER, IS_EMPTY};
+
+/// Which register the steps are on.
+#[derive(Clone, Copy, Debug, PartialEq, Eq)]
+pub enum Over {
+    Table,
+    Tape,
+    SheetOnTape,
+}
+
+/// The memory of a register, of which one of the two is used, and the steps with what came of
+/// them.
+#[derive(Clone)]
+pub struct Sequence {
+    pub over: Over,
+    pub table: Memory<Record>,
+    pub tape: Vec<u8>,
+    pub steps: Vec<Step>,
+}
+
+/// Records of which many differ in one field only, and some break the layout.
+fn pool(random: &mut Random) -> Vec<Record> {
+    let mut records = Vec::new();
+    for _ in 0..random.within(1, 4) {
+        let mut record = any_record(random);
+        while !record.keeps_layout() {
+            record = any_record(random);
+        }
+        records.extend((0..random.within(1, 16)).map(|signer| record.by(signer as u8)));
+        let mut other = record;
+        break_layout(&mut other, random);
+        records.push(other);
+    }
+    records
+}
+
+fn some_step(pool: &[Record], random: &mut Random) -> Step {
+    let number = match random.below(100) {
+        0..30 => ASK,
+        30..40 => IS_EMPTY,
+        40..85 => ENTER,
+        85..97 => COUNT,
+        _ => random.of(&[0, 5, 6, 255]),
+    };
+    let mut record = random.of(pool);
+    if random.percent(5) {
+        break_layout(&mut record, random);
+    }
+    let few = random.below(20) as u8;
+    Step {
+        record,
+        number,
+        replicas: random.of(&[few, few, 16, 17, 255]),
+        outcome: random.any() as u8,
+        value: random.any() as u8,
+    }
+}
+
+impl Sequence {
+    /// A random sequence. The memory holds anything before, also statements that it is asked for.
+    pub fn new(random: &mut Random) -> Sequence {
+        let pool = pool(random);
+        let places = random.of(&[0, 1, 2, 3, 5, 10, 20, 40]);
+        let mut table = Memory::new(places, || random.any());
+        let mut tape: Vec<u8> =
+            (0..places * PLACE + random.below(PLACE as u64) as usize).map(|_| random.any() as u8).collect();
+        for (place, bytes) in table.values_mut().iter_mut().zip(tape.chunks_exact_mut(PLACE)) {
+            if random.percent(50) {
+                let record = random.of(&pool);
+                *place = record;
+                bytes.copy_from_slice(&record.pack().unwrap_or_default());
+            }
+        }
+        let over = random.of(&[Over::Table, Over::Tape, Over::SheetOnTape]);
+        let length = random.below(100);
+        let steps = (0..length).map(|_| some_step(&pool, random)).collect();
+        Sequence { over, table, tape, steps }
+    }
+
+    pub fn run_by_library(&self) -> Sequence {
+        let mut ran = self.clone();
+        match self.over {
+            Over::Table => abi::use_table(ran.table.values_mut(), &mut ran.steps),
+            Over::Tape => abi::use_tape(&mut ran.tape, &mut ran.steps),
+            Over::SheetOnTape => abi::use_sheet_on_tape(&mut ran.tape, &mut ran.steps),
+        }
+        ran
+    }
+
+    pub fn run_by_twin(&self) -> Sequence {
+        let mut ran = self.clone();
+        match self.over {
+            Over::Table => steps::use_table(ran.table.values_mut(), &mut ran.steps),
+            Over::Tape => steps::use_tape(&mut ran.tape, &mut ran.steps),
+            Over::SheetOnTape => steps::use_sheet_on_tape(&mut ran.tape, &mut ran.steps),
+        }
+        ran
+    }
+}
+
+/// Every difference, each in words: outcomes, what was handed over in the steps, and memory.
+pub fn differences(before: &Sequence, ours: &Sequence, twin: &Sequence) -> Vec<String> {
+    let mut found = Vec::new();
+    for (place, (our, other)) in ours.steps.iter().zip(&twin.steps).enumerate() {
+        if our != other {
+            found.push(format!("step {place}: {our:?}, by the twin {other:?}"));
+        }
+    }
+    compare_bytes("tape", &ours.tape, &twin.tape, &mut found);
+    let (table, other) = (ours.table.values(), twin.table.values());
+    for (place, (our, other)) in table.iter().zip(other).enumerate() {
+        if our != other {
+            found.push(format!("place {place}: {our:?}, by the twin {other:?}"));
+        }
+    }
+    // Places that no statement was written to are as they were, byte by byte.
+    let held = before.table.values();
+    let used = other.iter().zip(held).rposition(|(after, before)| after != before);
+    let unused = used.map_or(0, |last| last + 1) * size_of::<Record>() / 8;
+    let (words, held) = (ours.table.words(), before.table.words());
+    compare_words("unused table", &words[unused..], &held[unused..], &mut found);
+    found
+}

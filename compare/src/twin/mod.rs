@@ -1,0 +1,34 @@
+//! An implementation of docs/*.md and include/fotsgari.h, written from these alone.
+
+pub mod bench;
+pub mod certificates;
+pub mod life;
+pub mod picks;
+pub mod record;
+pub mod register;
+pub mod service;
+pub mod steps;
+pub mod views;
+pub mod votes;
+
+/// A ground and a place.
+#[derive(Clone, Copy, Debug, PartialEq, Eq)]
+pub struct Refusal {
+    pub ground: u8,
+    pub place: u64,
+}
+
+/// A refusal on a ground, at place 0.
+pub fn refused<T>(ground: u8) -> Result<T, Refusal> {
+    refused_at(ground, 0)
+}
+
+/// A refusal on a ground, at a place.
+pub fn refused_at<T>(ground: u8, place: usize) -> Result<T, Refusal> {
+    Err(Refusal { ground, place: place as u64 })
+}
+
+/// Grants where a ground is not met.
+pub fn unless(met: bool, ground: u8) -> Result<(), Refusal> {
+    if met { refused(ground) } else { Ok(()) }
+}

@@ -1,0 +1,53 @@
+//! Steps on registers as C hands them over, from include/fotsgari_registers.h.
+
+use super::register::{Register, SpareSheet, Table, Tape};
+use crate::abi::{Record, Step};
+
+pub const ASK: u8 = 1;
+pub const IS_EMPTY: u8 = 2;
+pub const ENTER: u8 = 3;
+pub const COUNT: u8 = 4;
+
+/// The outcomes of a step.
+pub const UNKNOWN: u8 = 0;
+pub const GRANTED: u8 = 1;
+pub const YES: u8 = 2;
+pub const NO: u8 = 3;
+pub const REFUSED: u8 = 4;
+pub const COUNTED: u8 = 5;
+
+fn certain(yes: bool) -> (u8, u8) {
+    (if yes { YES } else { NO }, 0)
+}
+
+/// What comes of a step: its outcome and its value.
+fn take(register: &mut impl Register, step: &Step) -> (u8, u8) {
+    match step.number {
+        ASK => certain(register.ask(&step.record)),
+        IS_EMPTY => certain(register.is_empty()),
+        ENTER => match register.enter(&step.record) {
+            Ok(()) => (GRANTED, 0),
+            Err(refusal) => (REFUSED, refusal.ground),
+        },
+        COUNT => (COUNTED, register.count(step.record, step.replicas.min(16)) as u8),
+        _ => (UNKNOWN, 0),
+    }
+}
+
+fn take_all(register: &mut impl Register, steps: &mut [Step]) {
+    for step in steps {
+        (step.outcome, step.value) = take(register, step);
+    }
+}
+
+pub fn use_tape(tape: &mut [u8], steps: &mut [Step]) {
+    take_all(&mut Tape::new(tape), steps);
+}
+
+pub fn use_table(table: &mut [Record], steps: &mut [Step]) {
+    take_all(&mut Table::new(table), steps);
+}
+
+pub fn use_sheet_on_tape(tape: &mut [u8], steps: &mut [Step]) {
+    take_all(&mut SpareSheet::new(Tape::new(tape)), steps);
+}
