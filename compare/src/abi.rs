@@ -177,7 +177,22 @@ pub fn run_life(given: Given, written: Written) -> u8 {
 
 // TEMPORARY stand-in until registers_c is there.
 #[cfg(feature = "standin")]
-pub use crate::twin::steps::{use_sheet_on_tape, use_table, use_tape};
+mod standin {
+    use super::{Record, Step};
+    use crate::twin::register::ByAny;
+    use crate::twin::steps;
+    pub fn use_tape(tape: &mut [u8], steps: &mut [Step]) {
+        steps::use_tape::<ByAny>(tape, steps);
+    }
+    pub fn use_table(table: &mut [Record], steps: &mut [Step]) {
+        steps::use_table::<ByAny>(table, steps);
+    }
+    pub fn use_sheet_on_tape(tape: &mut [u8], steps: &mut [Step]) {
+        steps::use_sheet_on_tape::<ByAny>(tape, steps);
+    }
+}
+#[cfg(feature = "standin")]
+pub use standin::*;
 
 #[cfg(not(feature = "standin"))]
 /// Takes steps on a register over a tape, by the library.

@@ -11,6 +11,7 @@ use crate::random::Random;
 use crate::sequences::{self, Sequence};
 use crate::tally::Tally;
 use crate::twin;
+use crate::twin::register::ByAny;
 
 /// How often each alteration is tried.
 const TRIES: u64 = 40;
@@ -40,7 +41,7 @@ struct Both {
 fn run_both(life: &Life, random: &mut Random) -> Both {
     let before = life.memory(random);
     let ours = life.run(&before, abi::run_life);
-    let twin = life.run(&before, twin::life::run_life);
+    let twin = life.run(&before, twin::life::run_life::<ByAny>);
     Both { before, ours, twin }
 }
 

@@ -6,6 +6,7 @@ mod check;
 mod differ;
 mod generate;
 mod lives;
+mod measure;
 mod random;
 mod report;
 mod sequences;
@@ -16,18 +17,19 @@ use std::process::ExitCode;
 
 use tally::Tally;
 
-const USAGE: &str = "options: --seed N, --calls N, --steps N, --life N (this one only)";
+const USAGE: &str = "options: --seed N, --calls N, --steps N, --rounds N, --life N (this one only)";
 
 /// What the arguments ask for.
 struct Options {
     seed: u64,
     calls: u64,
     steps: u64,
+    rounds: u64,
     life: Option<u64>,
 }
 
 fn options() -> Option<Options> {
-    let mut options = Options { seed: 1, calls: 3_000_000, steps: 3_000_000, life: None };
+    let mut options = Options { seed: 1, calls: 3_000_000, steps: 3_000_000, rounds: 9, life: None };
     let mut arguments = std::env::args().skip(1);
     while let Some(name) = arguments.next() {
         let number = arguments.next()?.parse().ok()?;
@@ -35,6 +37,7 @@ fn options() -> Option<Options> {
             "--seed" => options.seed = number,
             "--calls" => options.calls = number,
             "--steps" => options.steps = number,
+            "--rounds" => options.rounds = number,
             "--life" => options.life = Some(number),
             _ => return None,
         }
@@ -63,6 +66,9 @@ fn run(options: &Options) -> bool {
     let reached = report::print_lives(&tally);
     check::check_registers(options.seed, options.steps, &mut tally);
     report::print_registers(&tally);
+    if options.rounds > 0 {
+        measure::measure(options.seed, options.rounds as usize);
+    }
     println!("\ndifferences: {}", tally.differences);
     comparer && reached && tally.differences == 0
 }

@@ -45,6 +45,10 @@ pub fn print_lives(tally: &Tally) -> bool {
         println!();
     }
     print_grounds(tally);
+    println!("\nof the calls that were not refused");
+    for (what, times) in &tally.reached {
+        println!("{times:9}  {what}");
+    }
     let answers: Vec<String> = tally.answers.iter().map(|(a, times)| format!("{a}: {times}")).collect();
     println!("\nlives by answer: {}", answers.join("  "));
     println!(
@@ -88,6 +92,9 @@ fn is_reached(tally: &Tally) -> bool {
         for place in (0..=LAST_PLACE).filter(|&place| tally.places[ground][place] < enough) {
             rare.push(format!("ground {ground} at place {place}"));
         }
+    }
+    for (what, _) in tally.reached.iter().filter(|(_, times)| **times < enough) {
+        rare.push((*what).to_string());
     }
     for answer in ANSWERS.iter().filter(|a| tally.answers.get(a).copied().unwrap_or(0) < enough) {
         rare.push(format!("answer {answer}"));

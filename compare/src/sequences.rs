@@ -5,6 +5,7 @@ use crate::differ::{compare_bytes, compare_words};
 use crate::generate::{any_record, break_layout};
 use crate::random::Random;
 use crate::twin::record::PLACE;
+use crate::twin::register::ByAny;
 use crate::twin::steps::{self, ASK, COUNT, ENTER, IS_EMPTY};
 
 /// Which register the steps are on.
@@ -97,9 +98,9 @@ impl Sequence {
     pub fn run_by_twin(&self) -> Sequence {
         let mut ran = self.clone();
         match self.over {
-            Over::Table => steps::use_table(ran.table.values_mut(), &mut ran.steps),
-            Over::Tape => steps::use_tape(&mut ran.tape, &mut ran.steps),
-            Over::SheetOnTape => steps::use_sheet_on_tape(&mut ran.tape, &mut ran.steps),
+            Over::Table => steps::use_table::<ByAny>(ran.table.values_mut(), &mut ran.steps),
+            Over::Tape => steps::use_tape::<ByAny>(&mut ran.tape, &mut ran.steps),
+            Over::SheetOnTape => steps::use_sheet_on_tape::<ByAny>(&mut ran.tape, &mut ran.steps),
         }
         ran
     }

@@ -2,9 +2,11 @@
 
 use std::collections::BTreeMap;
 
-use crate::abi::{REFUSED, YES};
+use crate::abi::{Call, REFUSED, YES};
+use crate::generate::number;
 use crate::lives::{Life, Ran};
 use crate::sequences::{Over, Sequence};
+use crate::twin::picks::top;
 
 pub const CALLS: usize = 17;
 pub const GROUNDS: usize = 19;
@@ -23,6 +25,8 @@ pub struct Tally {
     pub grounds: [[u64; GROUNDS]; CALLS],
     /// By the ground, and the place.
     pub places: [[u64; 16]; GROUNDS],
+    /// By what a call that was not refused had to do with.
+    pub reached: BTreeMap<&'static str, u64>,
     pub sequences: u64,
     pub steps: u64,
     /// By the register, the number of the step and its outcome.
@@ -49,7 +53,43 @@ impl Tally {
             } else if outcome.kind == YES {
                 self.witnesses += 2 * life.f + 1;
             }
+            if outcome.kind != REFUSED {
+                self.add_reached(life, call, outcome.kind == YES);
+            }
         }
+    }
+
+    /// Notes what a call that was not refused had to do with.
+    fn add_reached(&mut self, life: &Life, call: &Call, yes: bool) {
+        let [_, b, c, d, e] = call.arguments;
+        match call.number {
+            number::START => {
+                let picks = &life.records[b as usize..(b + c) as usize];
+                let told = picks.iter().filter(|pick| pick.last == top(picks));
+                self.note("start over the base of a view entered", top(picks) > 0);
+                self.note("start over a base with no-ops", e != 0);
+                self.note("start with no-ops of picks", told.fold(0, |word, p| word | p.word) != 0);
+                self.note("start with a pick of an earlier last", picks.iter().any(|p| p.last < top(picks)));
+            }
+            number::ENTER => {
+                self.note("enter with a line of some length", b > 0);
+                self.note("enter with no-ops", c != 0);
+                self.note("enter view 32 or later", d >= 32);
+                self.note("enter view 63", d == 63);
+            }
+            number::ANSWER if yes => {
+                self.note("answer certified in a view after 0", b > 0);
+                self.note("answer certified past a no-op", d != 0);
+                self.note("answer certified for slot 32 or later", c >= 32);
+                self.note("answer certified for slot 63", c == 63);
+            }
+            number::NO_OP if yes => self.note("no-op certified in a view after 0", b > 0),
+            _ => {}
+        }
+    }
+
+    fn note(&mut self, what: &'static str, holds: bool) {
+        *self.reached.entry(what).or_default() += u64::from(holds);
     }
 
     pub fn add_sequence(&mut self, ran: &Sequence) {

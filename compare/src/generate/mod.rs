@@ -7,7 +7,7 @@ mod rounds;
 mod views;
 mod wrong;
 
-pub use forging::{any_record, break_layout};
+pub use forging::{any_record, break_layout, operation};
 pub use plans::{Plan, Size, mishand, plan};
 
 use crate::abi::{Call, Kind, REFUSED, Record};
@@ -15,7 +15,7 @@ use crate::lives::Life;
 use crate::random::Random;
 use crate::twin::bench::Bench;
 use crate::twin::life;
-use crate::twin::register::Tape;
+use crate::twin::register::{ByAny, Tape};
 use crate::twin::service::{Allotment, Rating, Service};
 
 /// The numbers of the calls.
@@ -41,7 +41,7 @@ pub mod number {
 /// A life in the making.
 struct Making<'a, S> {
     random: Random,
-    bench: Bench<Tape<'a>, S>,
+    bench: Bench<Tape<'a, ByAny>, S>,
     life: Life,
     plan: Plan,
 }
@@ -57,7 +57,7 @@ pub fn life_of(plan: Plan, random: Random) -> Life {
 fn make_life<S: Service>(plan: Plan, mut random: Random) -> Life {
     let before: Vec<u8> = (0..plan.tape_length).map(|_| random.any() as u8).collect();
     let mut tape = before.clone();
-    let bench = Bench::open(plan.f, plan.foreign, Tape::new(&mut tape), S::default());
+    let bench = Bench::open(plan.f, plan.foreign, Tape::<ByAny>::new(&mut tape), S::default());
     let Ok(bench) = bench else { unreachable!("a plan has a granted open") };
     let life = Life {
         kind: plan.kind,
@@ -93,7 +93,7 @@ pub fn retrace(life: &mut Life) {
 
 fn retrace_with<S: Service>(life: &mut Life) {
     let mut tape = life.tape.clone();
-    let bench = Bench::open(life.f, life.foreign, Tape::new(&mut tape), S::default());
+    let bench = Bench::open(life.f, life.foreign, Tape::<ByAny>::new(&mut tape), S::default());
     let Ok(mut bench) = bench else { return };
     life.outcomes.clear();
     life.used.clear();

@@ -2,7 +2,7 @@
 
 use super::Refusal;
 use super::bench::{Bench, Replica};
-use super::register::{Register, Tape};
+use super::register::{Register, Search, Tape};
 use super::service::{Allotment, Rating, Service};
 use crate::abi::{
     self, GRANTED, Given, Kind, NO, Outcome, REFUSED, Record, SLOTS, Status, Written, YES,
@@ -131,14 +131,14 @@ pub fn status_of<R, S>(bench: &Bench<R, S>) -> Status {
     Status { stamped: bench.operations.len() as u64, operations, replicas }
 }
 
-fn run<S: Service>(given: Given, written: Written) -> Result<(), u8> {
+fn run<S: Service, F: Search>(given: Given, written: Written) -> Result<(), u8> {
     let Written { tape, outcomes, status } = written;
     if outcomes.len() != given.calls.len() {
         return Err(BAD_OUTCOMES);
     }
     let calls: Vec<Call> =
         given.calls.iter().map(|call| read(call, given.records)).collect::<Result<_, _>>()?;
-    let bench = Bench::open(given.f, given.foreign, Tape::new(tape), S::default());
+    let bench = Bench::open(given.f, given.foreign, Tape::<F>::new(tape), S::default());
     let mut bench = bench.map_err(|refusal| refusal.ground)?;
     for (outcome, call) in outcomes.iter_mut().zip(&calls) {
         *outcome = make(&mut bench, call);
@@ -148,10 +148,10 @@ fn run<S: Service>(given: Given, written: Written) -> Result<(), u8> {
 }
 
 /// Runs a life as the library does.
-pub fn run_life(given: Given, written: Written) -> u8 {
+pub fn run_life<F: Search>(given: Given, written: Written) -> u8 {
     let ran = match given.kind {
-        Kind::Rating => run::<Rating>(given, written),
-        Kind::Allotment => run::<Allotment>(given, written),
+        Kind::Rating => run::<Rating, F>(given, written),
+        Kind::Allotment => run::<Allotment, F>(given, written),
     };
     ran.err().unwrap_or(0)
 }

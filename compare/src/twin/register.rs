@@ -1,5 +1,7 @@
 //! The registers, from docs/REGISTERS.md: a table, a tape, and a spare sheet over a register.
 
+use std::marker::PhantomData;
+
 use super::{Refusal, refused};
 use crate::abi::Record;
 use crate::twin::record::PLACE;
@@ -25,21 +27,54 @@ pub trait Register {
     }
 }
 
-/// A register over lent records.
-pub struct Table<'a> {
-    records: &'a mut [Record],
-    used: usize,
+/// How a record or a packed one is looked for among those that are held.
+pub trait Search {
+    fn in_records(held: &[Record], record: &Record) -> bool;
+    fn in_bytes(held: &[u8], packed: &[u8; PLACE]) -> bool;
 }
 
-impl<'a> Table<'a> {
-    pub fn new(records: &'a mut [Record]) -> Self {
-        Table { records, used: 0 }
+/// By `any`, over parts of a tape.
+pub struct ByAny;
+
+/// By `contains`, over a tape as arrays.
+pub struct ByContains;
+
+impl Search for ByAny {
+    fn in_records(held: &[Record], record: &Record) -> bool {
+        held.iter().any(|other| other == record)
+    }
+
+    fn in_bytes(held: &[u8], packed: &[u8; PLACE]) -> bool {
+        held.chunks_exact(PLACE).any(|part| part == packed)
     }
 }
 
-impl Register for Table<'_> {
+impl Search for ByContains {
+    fn in_records(held: &[Record], record: &Record) -> bool {
+        held.contains(record)
+    }
+
+    fn in_bytes(held: &[u8], packed: &[u8; PLACE]) -> bool {
+        held.as_chunks().0.contains(packed)
+    }
+}
+
+/// A register over lent records.
+pub struct Table<'a, F> {
+    records: &'a mut [Record],
+    used: usize,
+    search: PhantomData<F>,
+}
+
+impl<'a, F> Table<'a, F> {
+    pub fn new(records: &'a mut [Record]) -> Self {
+        Table { records, used: 0, search: PhantomData }
+    }
+}
+
+impl<F: Search> Register for Table<'_, F> {
     fn ask(&self, record: &Record) -> bool {
-        self.records[..self.used].iter().any(|held| held == record)
+        F::in_records(&self.records[..self.used], record)
     }
 
     fn is_empty(&self) -> bool {
@@ -61,14 +96,15 @@ impl Register for Table<'_> {
 }
 
 /// A register over lent bytes.
-pub struct Tape<'a> {
+pub struct Tape<'a, F> {
     bytes: &'a mut [u8],
     used: usize,
+    search: PhantomData<F>,
 }
 
-impl<'a> Tape<'a> {
+impl<'a, F: Search> Tape<'a, F> {
     pub fn new(bytes: &'a mut [u8]) -> Self {
-        Tape { bytes, used: 0 }
+        Tape { bytes, used: 0, search: PhantomData }
     }
 
     /// How many statements it holds.
@@ -83,21 +119,17 @@ impl<'a> Tape<'a> {
 
     /// The statements in the order in which they were entered.
     pub fn statements(&self) -> impl DoubleEndedIterator<Item = Record> {
-        self.places().filter_map(Record::unpack)
+        self.held().chunks_exact(PLACE).filter_map(Record::unpack)
     }
 
-    fn places(&self) -> std::slice::ChunksExact<'_, u8> {
-        self.bytes[..self.used * PLACE].chunks_exact(PLACE)
-    }
-
-    fn holds(&self, packed: &[u8; PLACE]) -> bool {
-        self.places().any(|place| place == packed)
+    fn held(&self) -> &[u8] {
+        &self.bytes[..self.used * PLACE]
     }
 }
 
-impl Register for Tape<'_> {
+impl<F: Search> Register for Tape<'_, F> {
     fn ask(&self, record: &Record) -> bool {
-        record.pack().is_some_and(|packed| self.holds(&packed))
+        record.pack().is_some_and(|packed| F::in_bytes(self.held(), &packed))
     }
 
     fn is_empty(&self) -> bool {
@@ -106,7 +138,7 @@ impl Register for Tape<'_> {
 
     fn enter(&mut self, record: &Record) -> Result<(), Refusal> {
         let Some(packed) = record.pack() else { return refused(2) };
-        if self.holds(&packed) {
+        if F::in_bytes(self.held(), &packed) {
             return Ok(());
         }
         let start = self.used * PLACE;

@@ -1,6 +1,6 @@
 //! Steps on registers as C hands them over, from include/fotsgari_registers.h.
 
-use super::register::{Register, SpareSheet, Table, Tape};
+use super::register::{Register, Search, SpareSheet, Table, Tape};
 use crate::abi::{Record, Step};
 
 pub const ASK: u8 = 1;
@@ -40,14 +40,14 @@ fn take_all(register: &mut impl Register, steps: &mut [Step]) {
     }
 }
 
-pub fn use_tape(tape: &mut [u8], steps: &mut [Step]) {
-    take_all(&mut Tape::new(tape), steps);
+pub fn use_tape<F: Search>(tape: &mut [u8], steps: &mut [Step]) {
+    take_all(&mut Tape::<F>::new(tape), steps);
 }
 
-pub fn use_table(table: &mut [Record], steps: &mut [Step]) {
-    take_all(&mut Table::new(table), steps);
+pub fn use_table<F: Search>(table: &mut [Record], steps: &mut [Step]) {
+    take_all(&mut Table::<F>::new(table), steps);
 }
 
-pub fn use_sheet_on_tape(tape: &mut [u8], steps: &mut [Step]) {
-    take_all(&mut SpareSheet::new(Tape::new(tape)), steps);
+pub fn use_sheet_on_tape<F: Search>(tape: &mut [u8], steps: &mut [Step]) {
+    take_all(&mut SpareSheet::new(Tape::<F>::new(tape)), steps);
 }
