@@ -6,11 +6,7 @@ use std::process::{Command, exit};
 fn main() {
     let crates = Path::new("..").join("crates");
     for name in ["fotsgari_c"] {
-        link(
-            &crates.join(name).join("out"),
-            name,
-            &format!("run (cd crates/{name} && rt lib)"),
-        );
+        link(&crates.join(name).join("out"), name, &format!("run (cd crates/{name} && rt lib)"));
     }
     // Both call malloc, realloc and free through this file, so it comes last.
     let kit = kit().unwrap_or_else(|| fail("rt is not to be found, and with it its liblibc_c.a"));

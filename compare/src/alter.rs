@@ -35,7 +35,9 @@ pub const OF_A_LIFE: [(&str, Alter); 26] = [
     ("yes by one who did not say it", stranger),
     ("yes by one who said it later", later_witness),
     ("yes by one witness twice", |life, ran, random| {
-        of_outcome(life, ran, random, is_yes, |outcome, _| outcome.witnesses[0] = outcome.witnesses[1])
+        of_outcome(life, ran, random, is_yes, |outcome, _| {
+            outcome.witnesses[0] = outcome.witnesses[1]
+        })
     }),
     ("yes by no replica", |life, ran, random| {
         of_outcome(life, ran, random, is_yes, |outcome, life| {
@@ -52,9 +54,15 @@ pub const OF_A_LIFE: [(&str, Alter); 26] = [
     ("stamped operation", |_, ran, _| of_operation(ran, |stamped| stamped.checked_sub(1))),
     ("operation not stamped", |_, ran, _| of_operation(ran, Some)),
     ("view", |_, ran, random| of_replica(ran, random, |status, at| status.replicas[at].view ^= 1)),
-    ("target", |_, ran, random| of_replica(ran, random, |status, at| status.replicas[at].target ^= 1)),
-    ("base length", |_, ran, random| of_replica(ran, random, |status, at| status.replicas[at].base ^= 1)),
-    ("length", |_, ran, random| of_replica(ran, random, |status, at| status.replicas[at].length ^= 1)),
+    ("target", |_, ran, random| {
+        of_replica(ran, random, |status, at| status.replicas[at].target ^= 1)
+    }),
+    ("base length", |_, ran, random| {
+        of_replica(ran, random, |status, at| status.replicas[at].base ^= 1)
+    }),
+    ("length", |_, ran, random| {
+        of_replica(ran, random, |status, at| status.replicas[at].length ^= 1)
+    }),
     ("mark", |_, ran, random| of_replica(ran, random, |status, at| status.replicas[at].mark ^= 1)),
     ("word", |_, ran, random| of_replica(ran, random, |status, at| status.replicas[at].word ^= 1)),
     ("sealed word", |_, ran, random| {

@@ -11,6 +11,7 @@ use crate::random::Random;
 use crate::sequences::{self, Sequence};
 use crate::tally::Tally;
 use crate::twin;
+use crate::twin::record::PLACE;
 use crate::twin::register::ByAny;
 
 /// How often each alteration is tried.
@@ -27,8 +28,21 @@ fn numbered_life(seed: u64, number: u64) -> (Life, Random) {
     if number % 12 == 11 {
         mishand(&mut life, &mut random);
         retrace(&mut life);
+    } else if random.percent(25) {
+        hold_before(&mut life, &mut random);
     }
     (life, random)
+}
+
+/// Puts on the tape, before the life, the statements that it enters, at other places.
+fn hold_before(life: &mut Life, random: &mut Random) {
+    let mut tape = life.run(&life.memory(random), twin::life::run_life::<ByAny>).tape;
+    let places = tape.len() / PLACE;
+    if places > 0 {
+        let by = random.below(places as u64) as usize;
+        tape[..places * PLACE].rotate_left(by * PLACE);
+    }
+    life.tape = tape;
 }
 
 /// A life run by both: the memory before, and that after each.
@@ -137,8 +151,14 @@ pub fn check_comparer(seed: u64) -> bool {
     alter_lives(seed, &mut noticed);
     alter_sequences(seed, &mut noticed);
     let kinds = OF_A_LIFE.len() + OF_NO_LIFE.len() + OF_A_SEQUENCE.len() + 1;
-    println!("comparer: {} of {} alterations of {kinds} kinds taken rightly", noticed.noticed, noticed.tried);
-    println!("  ({} that make a difference, and witnesses in another order, which make none)", kinds - 1);
+    println!(
+        "comparer: {} of {} alterations of {kinds} kinds taken rightly",
+        noticed.noticed, noticed.tried
+    );
+    println!(
+        "  ({} that make a difference, and witnesses in another order, which make none)",
+        kinds - 1
+    );
     for name in &noticed.bad {
         println!("  NOT RIGHTLY: {name}");
     }
@@ -150,7 +170,8 @@ fn alter_lives(seed: u64, noticed: &mut Noticed) {
     for number in 0..20_000 {
         let (life, mut random) = numbered_life(seed, number);
         let Both { before, ours, twin } = run_both(&life, &mut random);
-        let (offset, list) = if ours.answer == 0 { (0, &OF_A_LIFE[..]) } else { (OF_A_LIFE.len(), &OF_NO_LIFE[..]) };
+        let (offset, list) =
+            if ours.answer == 0 { (0, &OF_A_LIFE[..]) } else { (OF_A_LIFE.len(), &OF_NO_LIFE[..]) };
         for (place, (name, alter)) in list.iter().enumerate() {
             let mut altered = ours.clone();
             if tried[offset + place] < TRIES && alter(&life, &mut altered, &mut random) {

@@ -17,7 +17,12 @@ pub fn differences(life: &Life, before: &Ran, ours: &Ran, twin: &Ran) -> Vec<Str
         compare_bytes("tape", &ours.tape, &twin.tape, &mut found);
     } else {
         compare_bytes("tape of no life", &ours.tape, &before.tape, &mut found);
-        compare_words("outcomes of no life", ours.outcomes.words(), before.outcomes.words(), &mut found);
+        compare_words(
+            "outcomes of no life",
+            ours.outcomes.words(),
+            before.outcomes.words(),
+            &mut found,
+        );
         compare_words("status of no life", ours.status.words(), before.status.words(), &mut found);
     }
     found

@@ -33,6 +33,12 @@ pub struct Ran {
 }
 
 impl Life {
+    /// A life of an open alone.
+    pub fn opened(kind: Kind, f: u64, foreign: u64, tape: Vec<u8>) -> Life {
+        let (calls, records, outcomes, used) = Default::default();
+        Life { kind, f, foreign, tape, calls, records, room: 0, outcomes, used }
+    }
+
     pub fn given(&self) -> Given<'_> {
         Given {
             kind: self.kind,

@@ -49,11 +49,16 @@ pub fn print_lives(tally: &Tally) -> bool {
     for (what, times) in &tally.reached {
         println!("{times:9}  {what}");
     }
-    let answers: Vec<String> = tally.answers.iter().map(|(a, times)| format!("{a}: {times}")).collect();
+    let answers: Vec<String> =
+        tally.answers.iter().map(|(a, times)| format!("{a}: {times}")).collect();
     println!("\nlives by answer: {}", answers.join("  "));
     println!(
         "compared: {} lives, {} calls, {} witnesses, {} bytes of tapes, {} replicas",
-        tally.lives, tally.calls, tally.witnesses, tally.tape_bytes, 16 * tally.lives
+        tally.lives,
+        tally.calls,
+        tally.witnesses,
+        tally.tape_bytes,
+        16 * tally.lives
     );
     is_reached(tally)
 }

@@ -70,8 +70,9 @@ impl Sequence {
         let pool = pool(random);
         let places = random.of(&[0, 1, 2, 3, 5, 10, 20, 40]);
         let mut table = Memory::new(places, || random.any());
-        let mut tape: Vec<u8> =
-            (0..places * PLACE + random.below(PLACE as u64) as usize).map(|_| random.any() as u8).collect();
+        let mut tape: Vec<u8> = (0..places * PLACE + random.below(PLACE as u64) as usize)
+            .map(|_| random.any() as u8)
+            .collect();
         for (place, bytes) in table.values_mut().iter_mut().zip(tape.chunks_exact_mut(PLACE)) {
             if random.percent(50) {
                 let record = random.of(&pool);

@@ -69,7 +69,10 @@ impl Tally {
                 self.note("start over the base of a view entered", top(picks) > 0);
                 self.note("start over a base with no-ops", e != 0);
                 self.note("start with no-ops of picks", told.fold(0, |word, p| word | p.word) != 0);
-                self.note("start with a pick of an earlier last", picks.iter().any(|p| p.last < top(picks)));
+                self.note(
+                    "start with a pick of an earlier last",
+                    picks.iter().any(|p| p.last < top(picks)),
+                );
             }
             number::ENTER => {
                 self.note("enter with a line of some length", b > 0);

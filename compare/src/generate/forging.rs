@@ -138,7 +138,9 @@ impl<S: Service> Making<'_, S> {
     /// Foreign replicas say what they like, up to this many times.
     pub(super) fn forge_many(&mut self, times: usize) {
         let numbers = self.some_replicas(100);
-        let Some(&signer) = numbers.iter().find(|&&r| self.bench.is_foreign(r)) else { return };
+        let Some(&signer) = numbers.iter().find(|&&r| self.bench.is_foreign(r)) else {
+            return;
+        };
         let held: Vec<Record> = self.bench.register.statements().collect();
         for _ in 0..times {
             let result = self.random.any();

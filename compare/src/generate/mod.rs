@@ -14,6 +14,7 @@ use crate::abi::{Call, Kind, REFUSED, Record};
 use crate::lives::Life;
 use crate::random::Random;
 use crate::twin::bench::Bench;
+use crate::twin::calls;
 use crate::twin::life;
 use crate::twin::register::{ByAny, Tape};
 use crate::twin::service::{Allotment, Rating, Service};
@@ -59,25 +60,9 @@ fn make_life<S: Service>(plan: Plan, mut random: Random) -> Life {
     let mut tape = before.clone();
     let bench = Bench::open(plan.f, plan.foreign, Tape::<ByAny>::new(&mut tape), S::default());
     let Ok(bench) = bench else { unreachable!("a plan has a granted open") };
-    let life = Life {
-        kind: plan.kind,
-        f: plan.f,
-        foreign: plan.foreign,
-        tape: before,
-        calls: Vec::new(),
-        records: Vec::new(),
-        room: 0,
-        outcomes: Vec::new(),
-        used: Vec::new(),
-    };
+    let life = Life::opened(plan.kind, plan.f, plan.foreign, before);
     let mut making = Making { random, bench, life, plan };
-    while !making.is_over() {
-        let calls = making.life.calls.len();
-        making.round();
-        if making.life.calls.len() == calls {
-            making.random_call();
-        }
-    }
+    making.make_rounds();
     let mut life = making.life;
     life.room = life.calls.len();
     life
@@ -98,13 +83,28 @@ fn retrace_with<S: Service>(life: &mut Life) {
     life.outcomes.clear();
     life.used.clear();
     for call in &life.calls {
-        let Ok(call) = life::read(call, &life.records) else { return };
+        let Ok(call) = calls::read(call, &life.records) else {
+            return;
+        };
         life.outcomes.push(life::make(&mut bench, &call));
         life.used.push(bench.register.used());
     }
 }
 
 impl<S: Service> Making<'_, S> {
+    fn make_rounds(&mut self) {
+        if self.plan.early {
+            self.stamp_all();
+        }
+        while !self.is_over() {
+            let calls = self.life.calls.len();
+            self.round();
+            if self.life.calls.len() == calls {
+                self.random_call();
+            }
+        }
+    }
+
     fn is_over(&self) -> bool {
         self.life.calls.len() >= self.plan.calls
     }
@@ -115,7 +115,7 @@ impl<S: Service> Making<'_, S> {
             return false;
         }
         let call = Call { number, arguments };
-        let outcome = match life::read(&call, &self.life.records) {
+        let outcome = match calls::read(&call, &self.life.records) {
             Ok(read) => life::make(&mut self.bench, &read),
             Err(_) => return false,
         };
@@ -169,10 +169,14 @@ impl<S: Service> Making<'_, S> {
         views.into_iter().find(|&(r, view)| self.works_in(r, view)).map(|(_, view)| view)
     }
 
-    /// A statement of this kind in the register.
+    /// A statement of this kind in the register, if there is one: now and then the last.
     fn a_statement(&mut self, kind: u8) -> Option<Record> {
         let statements = self.bench.register.statements();
         let found: Vec<Record> = statements.filter(|held| held.kind == kind).collect();
-        self.random.pick(&found).copied()
+        if self.random.percent(25) {
+            found.last().copied()
+        } else {
+            self.random.pick(&found).copied()
+        }
     }
 }

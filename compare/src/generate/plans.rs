@@ -16,10 +16,14 @@ pub struct Plan {
     pub calls: usize,
     /// Up to how many operations are stamped as a rule.
     pub stamped: u8,
-    /// In how many of a hundred calls a wrong one comes before.
+    /// Of a hundred calls, about how many have a wrong one before them.
     pub wrong: u64,
     /// Whether foreign replicas may fill the tape.
     pub fills: bool,
+    /// Whether all operations are stamped at first.
+    pub early: bool,
+    /// Up to how far a change of view goes.
+    pub jump: u64,
 }
 
 /// How long a life is.
@@ -48,11 +52,13 @@ fn tape_length(random: &mut Random, calls: u64) -> usize {
 
 /// A random plan with a granted open.
 pub fn plan(random: &mut Random, size: Size) -> Plan {
-    let f = [1, 1, 1, 2, 2, 3, 4, 5][random.below(8) as usize];
+    let f = random.of(&[1, 1, 2, 2, 3, 4, 5, 5]);
     let n = 3 * f + 1;
     let bits = random.within(0, f).max(random.within(0, f));
+    let early = size == Size::Any && random.percent(8);
     let calls = match size {
         Size::Calls(calls) => calls as u64,
+        Size::Any if early => random.within(100, 200 * n),
         Size::Any if random.percent(20) => random.below(20),
         Size::Any => random.within(20, 60 * n),
     };
@@ -62,9 +68,11 @@ pub fn plan(random: &mut Random, size: Size) -> Plan {
         foreign: mask(random, n, bits),
         tape_length: tape_length(random, calls),
         calls: calls as usize,
-        stamped: random.of(&[1, 2, 3, 4, 6, 8, 12, 64]),
+        stamped: if early { 64 } else { random.of(&[1, 2, 3, 4, 6, 8, 12, 64]) },
         wrong: random.of(&[0, 5, 15, 30]),
         fills: random.percent(30),
+        early,
+        jump: random.of(&[2, 7, 7, 40]),
     }
 }
 
@@ -91,7 +99,9 @@ fn mishand_once(life: &mut Life, random: &mut Random) {
 fn spoil_call(life: &mut Life, random: &mut Random) {
     let place = random.below(life.calls.len().max(1) as u64) as usize;
     let held = life.records.len() as u64;
-    let Some(call) = life.calls.get_mut(place) else { return };
+    let Some(call) = life.calls.get_mut(place) else {
+        return;
+    };
     let [_, b, c, d, e] = call.arguments;
     let replica = random.below(4);
     match random.below(4) {
@@ -115,6 +125,9 @@ fn spoil_call(life: &mut Life, random: &mut Random) {
                 (u64::MAX, 2),
                 (1 << 63, 1 << 63),
                 (held / 2, held + 1),
+                (held + 1, 0),
+                (u64::MAX, 0),
+                (held, 0),
                 (b, c),
             ]);
             call.arguments = [replica, first, count, d, e];

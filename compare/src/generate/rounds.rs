@@ -103,7 +103,9 @@ impl<S: Service> Making<'_, S> {
     fn operation_round(&mut self) {
         let Some(view) = self.a_view() else { return };
         let numbers = self.some_replicas(100);
-        let Some(&member) = numbers.iter().find(|&&r| self.works_in(r, view)) else { return };
+        let Some(&member) = numbers.iter().find(|&&r| self.works_in(r, view)) else {
+            return;
+        };
         let state = self.bench.replica(member);
         let slot = self.random.within(state.base.into(), state.length.into()) as u8;
         if self.has_operation(slot) {
@@ -117,8 +119,7 @@ impl<S: Service> Making<'_, S> {
         for replica in self.some_replicas(92) {
             let works = self.works_in(replica, statement.view);
             if works || self.bench.is_foreign(replica) || self.random.percent(10) {
-                let arguments =
-                    [replica.into(), slot.into(), statement.verdict.into(), 0, 0];
+                let arguments = [replica.into(), slot.into(), statement.verdict.into(), 0, 0];
                 self.speak(replica, (call, arguments), statement);
             }
         }

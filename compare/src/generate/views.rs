@@ -15,12 +15,15 @@ struct Merging {
 impl<S: Service> Making<'_, S> {
     pub(super) fn view_round(&mut self) {
         let greatest = self.bench.replicas.iter().map(|r| r.target).max().unwrap_or(0);
-        let target = greatest + if self.random.percent(10) { self.random.within(1, 7) as u8 } else { 1 };
+        let far = if self.random.percent(15) { self.random.within(1, self.plan.jump) } else { 1 };
+        let target = greatest + far as u8;
         if target > 63 {
             return;
         }
         self.leave_for(target);
-        let Some(merging) = self.choose(target) else { return };
+        let Some(merging) = self.choose(target) else {
+            return;
+        };
         if self.random.percent(10) {
             self.start_all(target, &merging);
         }
@@ -32,10 +35,13 @@ impl<S: Service> Making<'_, S> {
             return;
         }
         self.start_all(target, &merging);
+        self.enter_all(target, line);
+    }
+
+    fn enter_all(&mut self, target: u8, line: Line) {
         for replica in self.some_replicas(93) {
+            let arguments = [replica.into(), line.length.into(), line.word, target.into(), 0];
             if !self.bench.is_foreign(replica) {
-                let arguments =
-                    [replica.into(), line.length.into(), line.word, target.into(), 0];
                 self.act(number::ENTER, arguments);
             }
         }

@@ -8,13 +8,13 @@ use crate::twin::service::Service;
 impl<S: Service> Making<'_, S> {
     /// Makes a call that differs from one that fits.
     pub(super) fn wrong(&mut self, number: u64, mut arguments: [u64; 5]) {
-        let names_replica = !matches!(
-            number,
-            number::STAMP | number::FORGE | number::ANSWER | number::NO_OP
-        );
-        if names_replica && self.random.percent(40) {
+        let names_replica =
+            !matches!(number, number::STAMP | number::FORGE | number::ANSWER | number::NO_OP);
+        let (replica, twice) = (self.random.percent(40), self.random.percent(25));
+        if names_replica && replica {
             arguments[0] = self.other_replica();
-        } else {
+        }
+        if !names_replica || !replica || twice {
             self.change(number, &mut arguments);
         }
         self.make(number, arguments);
@@ -112,20 +112,20 @@ impl<S: Service> Making<'_, S> {
         let earlier = self.random.below(place.max(1) as u64) as usize;
         let top = crate::twin::picks::top(picks);
         let other = self.random.below(picks.len() as u64) as usize;
-        match self.random.below(10) {
-            0 => break_layout(&mut picks[place], &mut self.random),
-            1 => picks.swap(place, other),
-            2 => picks[place] = self.random.of(picks.as_slice()),
-            3 => picks[place] = picks[place].by(picks[earlier].signer),
-            4 => picks[place].view = self.random.within(picks[place].view.into(), 63) as u8,
-            5 => {
+        match self.random.below(12) {
+            0..=2 => break_layout(&mut picks[place], &mut self.random),
+            3 => picks.swap(place, other),
+            4 => picks[place] = self.random.of(picks.as_slice()),
+            5 => picks[place] = picks[place].by(picks[earlier].signer),
+            6 => picks[place].view = self.random.within(picks[place].view.into(), 63) as u8,
+            7 => {
                 picks[place].last = top;
                 let over = (self.bench.operations.len() as u64 + 1).min(64);
                 picks[place].slot = self.random.within(over, 64) as u8;
             }
-            6 => picks[place].slot = picks[place].slot.saturating_sub(1),
-            7 => picks[place].last = self.random.below(picks[place].view.max(1).into()) as u8,
-            8 => picks[place].signer = self.random.within(self.bench.n.min(15).into(), 15) as u8,
+            8 => picks[place].slot = picks[place].slot.saturating_sub(1),
+            9 => picks[place].last = self.random.below(picks[place].view.max(1).into()) as u8,
+            10 => picks[place].signer = self.random.within(self.bench.n.min(15).into(), 15) as u8,
             _ => {
                 let kind = self.random.within(1, 9) as u8;
                 if let Some(found) = self.a_statement(kind) {

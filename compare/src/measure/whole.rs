@@ -9,17 +9,7 @@ use crate::twin::record::PLACE;
 
 /// A life with only its open: the last replica is foreign, and the tape has 1,024 places.
 fn opened(f: u64, kind: Kind) -> Life {
-    Life {
-        kind,
-        f,
-        foreign: 1 << (3 * f),
-        tape: vec![0; PLACES * PLACE],
-        calls: Vec::new(),
-        records: Vec::new(),
-        room: 0,
-        outcomes: Vec::new(),
-        used: Vec::new(),
-    }
+    Life::opened(kind, f, 1 << (3 * f), vec![0; PLACES * PLACE])
 }
 
 impl Life {
@@ -92,12 +82,7 @@ fn deliver_granted(f: u64) -> MakeRow {
             whole.deliver(replica, 0..64);
         }
         expect_last(&name, &whole, GRANTED, 0);
-        Row {
-            name,
-            operations: delivered,
-            whole: running(whole),
-            preparing: Some(running(before)),
-        }
+        Row { name, operations: delivered, whole: running(whole), preparing: Some(running(before)) }
     })
 }
 
@@ -128,6 +113,8 @@ fn whole_life(seed: u64, f: u64, kind: Kind) -> MakeRow {
             stamped: 64,
             wrong: 15,
             fills: false,
+            early: false,
+            jump: 1,
         };
         let life = life_of(plan, Random::new(seed));
         let name = format!("a life of 10,000 calls, {kind:?}, f = {f}");

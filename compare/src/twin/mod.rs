@@ -1,6 +1,7 @@
 //! An implementation of docs/*.md and include/fotsgari.h, written from these alone.
 
 pub mod bench;
+pub mod calls;
 pub mod certificates;
 pub mod life;
 pub mod picks;

@@ -31,7 +31,10 @@ impl Record {
                     self.slot < 64 && self.bare() && self.last == 0 && self.verdict < 2
                 }
                 VIEW_CHANGE => {
-                    self.slot <= 64 && self.last < self.view && self.verdict == 0 && self.result == 0
+                    self.slot <= 64
+                        && self.last < self.view
+                        && self.verdict == 0
+                        && self.result == 0
                 }
                 VIEW_START | ENTRY => {
                     self.slot <= 64

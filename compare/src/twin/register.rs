@@ -88,7 +88,9 @@ impl<F: Search> Register for Table<'_, F> {
         if self.ask(record) {
             return Ok(());
         }
-        let Some(place) = self.records.get_mut(self.used) else { return refused(18) };
+        let Some(place) = self.records.get_mut(self.used) else {
+            return refused(18);
+        };
         *place = *record;
         self.used += 1;
         Ok(())
@@ -137,12 +139,16 @@ impl<F: Search> Register for Tape<'_, F> {
     }
 
     fn enter(&mut self, record: &Record) -> Result<(), Refusal> {
-        let Some(packed) = record.pack() else { return refused(2) };
+        let Some(packed) = record.pack() else {
+            return refused(2);
+        };
         if F::in_bytes(self.held(), &packed) {
             return Ok(());
         }
         let start = self.used * PLACE;
-        let Some(place) = self.bytes.get_mut(start..start + PLACE) else { return refused(18) };
+        let Some(place) = self.bytes.get_mut(start..start + PLACE) else {
+            return refused(18);
+        };
         place.copy_from_slice(&packed);
         self.used += 1;
         Ok(())
@@ -179,7 +185,9 @@ impl<R: Register> Register for SpareSheet<R> {
         if self.holds(record) {
             return Ok(());
         }
-        let Err(refusal) = self.below.enter(record) else { return Ok(()) };
+        let Err(refusal) = self.below.enter(record) else {
+            return Ok(());
+        };
         if !record.keeps_layout() || self.used == self.own.len() {
             return Err(refusal);
         }

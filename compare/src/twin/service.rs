@@ -84,7 +84,9 @@ impl Service for Allotment {
             2 => balance.checked_sub(amount),
             _ => return MALFORMED,
         };
-        let Some(after) = after else { return OUT_OF_RANGE };
+        let Some(after) = after else {
+            return OUT_OF_RANGE;
+        };
         *balance = after;
         after.into()
     }
