@@ -31,7 +31,7 @@ impl<S: Service> Making<'_, S> {
     }
 
     /// Stamps operations up to the last slot and one more, where the plan is for many.
-    fn stamp_all(&mut self) {
+    pub(super) fn stamp_all(&mut self) {
         while self.plan.stamped == 64 && self.stamp() {}
     }
 
