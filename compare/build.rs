@@ -5,7 +5,7 @@ use std::process::{Command, exit};
 
 fn main() {
     let crates = Path::new("..").join("crates");
-    for name in ["fotsgari_c"] {
+    for name in ["fotsgari_c", "registers_c"] {
         link(&crates.join(name).join("out"), name, &format!("run (cd crates/{name} && rt lib)"));
     }
     // Both call malloc, realloc and free through this file, so it comes last.

@@ -58,7 +58,7 @@ pub struct Status {
 #[repr(C)]
 #[derive(Clone, Copy, Debug, Default, PartialEq, Eq)]
 pub struct Step {
-    pub record: Record,
+    pub statement: Record,
     pub number: u8,
     pub replicas: u8,
     pub outcome: u8,
@@ -133,6 +133,21 @@ unsafe extern "C" {
     );
 }
 
+unsafe extern "C" {
+    /// Of the C library, with which std is linked: the seconds and nanoseconds of a clock.
+    fn clock_gettime(clock: i32, time: *mut [i64; 2]) -> i32;
+}
+
+/// The time for which this thread has run, in nanoseconds; not what it waited while others ran.
+pub fn thread_nanoseconds() -> f64 {
+    const THREAD_CPUTIME: i32 = 3;
+    let mut time = [0; 2];
+    // SAFETY: on x86-64 Linux, for which the libraries are built, a time is two 64-bit numbers.
+    let failed = unsafe { clock_gettime(THREAD_CPUTIME, &mut time) };
+    assert_eq!(failed, 0, "there is no clock for the time of a thread");
+    time[0] as f64 * 1e9 + time[1] as f64
+}
+
 /// What a life is run on and with.
 #[derive(Clone, Copy)]
 pub struct Given<'a> {
@@ -175,40 +190,18 @@ pub fn run_life(given: Given, written: Written) -> u8 {
     }
 }
 
-// TEMPORARY stand-in until registers_c is there.
-#[cfg(feature = "standin")]
-mod standin {
-    use super::{Record, Step};
-    use crate::twin::register::ByAny;
-    use crate::twin::steps;
-    pub fn use_tape(tape: &mut [u8], steps: &mut [Step]) {
-        steps::use_tape::<ByAny>(tape, steps);
-    }
-    pub fn use_table(table: &mut [Record], steps: &mut [Step]) {
-        steps::use_table::<ByAny>(table, steps);
-    }
-    pub fn use_sheet_on_tape(tape: &mut [u8], steps: &mut [Step]) {
-        steps::use_sheet_on_tape::<ByAny>(tape, steps);
-    }
-}
-#[cfg(feature = "standin")]
-pub use standin::*;
-
-#[cfg(not(feature = "standin"))]
 /// Takes steps on a register over a tape, by the library.
 pub fn use_tape(tape: &mut [u8], steps: &mut [Step]) {
     // SAFETY: as in run_life.
     unsafe { fotsgari_use_tape(tape.as_mut_ptr(), tape.len(), steps.as_mut_ptr(), steps.len()) }
 }
 
-#[cfg(not(feature = "standin"))]
 /// Takes steps on a register over a table, by the library.
 pub fn use_table(table: &mut [Record], steps: &mut [Step]) {
     // SAFETY: as in run_life.
     unsafe { fotsgari_use_table(table.as_mut_ptr(), table.len(), steps.as_mut_ptr(), steps.len()) }
 }
 
-#[cfg(not(feature = "standin"))]
 /// Takes steps on a spare sheet over a tape, by the library.
 pub fn use_sheet_on_tape(tape: &mut [u8], steps: &mut [Step]) {
     // SAFETY: as in run_life.

@@ -212,7 +212,7 @@ type AlterSteps = fn(&mut Sequence, &mut Random) -> bool;
 pub const OF_A_SEQUENCE: [(&str, AlterSteps); 7] = [
     ("outcome of a step", |ran, random| of_step(ran, random, |step| step.outcome ^= 1)),
     ("value of a step", |ran, random| of_step(ran, random, |step| step.value += 1)),
-    ("record of a step", |ran, random| of_step(ran, random, |step| step.record.result ^= 1)),
+    ("record of a step", |ran, random| of_step(ran, random, |step| step.statement.result ^= 1)),
     ("number of a step", |ran, random| of_step(ran, random, |step| step.number ^= 1)),
     ("replicas of a step", |ran, random| of_step(ran, random, |step| step.replicas ^= 1)),
     ("byte of a register's tape", |ran, random| {

@@ -30,7 +30,7 @@ struct Options {
 
 fn options() -> Option<Options> {
     let mut options =
-        Options { seed: 1, calls: 3_000_000, steps: 3_000_000, rounds: 9, life: None };
+        Options { seed: 1, calls: 3_000_000, steps: 3_000_000, rounds: 60, life: None };
     let mut arguments = std::env::args().skip(1);
     while let Some(name) = arguments.next() {
         let number = arguments.next()?.parse().ok()?;

@@ -50,13 +50,13 @@ fn some_step(pool: &[Record], random: &mut Random) -> Step {
         85..97 => COUNT,
         _ => random.of(&[0, 5, 6, 255]),
     };
-    let mut record = random.of(pool);
+    let mut statement = random.of(pool);
     if random.percent(5) {
-        break_layout(&mut record, random);
+        break_layout(&mut statement, random);
     }
     let few = random.below(20) as u8;
     Step {
-        record,
+        statement,
         number,
         replicas: random.of(&[few, few, 16, 17, 255]),
         outcome: random.any() as u8,

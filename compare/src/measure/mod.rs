@@ -4,7 +4,7 @@ mod registers;
 mod whole;
 
 use std::hint::black_box;
-use std::time::Instant;
+use std::time::{Duration, Instant};
 
 use crate::abi;
 use crate::lives::{Life, Ran, Runner};
@@ -40,9 +40,9 @@ pub struct Row {
 pub type MakeRow = Box<dyn Fn(usize) -> Row>;
 
 fn nanoseconds(work: &mut Work, who: Who) -> f64 {
-    let began = Instant::now();
+    let began = abi::thread_nanoseconds();
     work(black_box(who));
-    began.elapsed().as_nanos() as f64
+    abi::thread_nanoseconds() - began
 }
 
 impl Row {
@@ -52,24 +52,29 @@ impl Row {
         [nanoseconds(&mut self.whole, who), preparing]
     }
 
-    /// The time of an operation for each, from the best of a number of rounds, in which each
-    /// comes first in its turn.
+    /// The time of an operation for each, from the best of some rounds, in which each comes first
+    /// in its turn: as many rounds as are asked for, but after the first nine only for a second.
     fn times(&mut self, rounds: usize) -> [f64; 3] {
         let mut best = [[f64::INFINITY; 2]; 3];
-        for turn in 0..rounds * ALL.len() + ALL.len() {
-            let place = (turn + turn / ALL.len()) % ALL.len();
-            let times = self.time(ALL[place]);
-            best[place] = [best[place][0].min(times[0]), best[place][1].min(times[1])];
+        let began = Instant::now();
+        for round in 0..rounds {
+            for place in (0..ALL.len()).map(|next| (next + round) % ALL.len()) {
+                let times = self.time(ALL[place]);
+                best[place] = [best[place][0].min(times[0]), best[place][1].min(times[1])];
+            }
+            if round >= 9 && began.elapsed() > Duration::from_secs(1) {
+                break;
+            }
         }
         best.map(|[whole, preparing]| (whole - preparing) / self.operations as f64)
     }
 }
 
-/// As many operations as the twin does in about 15 milliseconds.
+/// As many operations as the twin does in about 2 milliseconds.
 fn enough(make: &MakeRow) -> usize {
-    const FEW: usize = 400;
-    let [_, one, _] = make(FEW).times(2);
-    (12e6 / one.max(1.0)).clamp(FEW as f64, 1e6) as usize
+    const FEW: usize = 50;
+    let [_, one, _] = make(FEW).times(5);
+    (2e6 / one.max(1.0)).clamp(FEW as f64, 1e6) as usize
 }
 
 /// Prints a table of all rows.

@@ -49,7 +49,7 @@ fn taking(over: Over, mut steps: Vec<Step>) -> Work {
 fn row(name: String, over: Over, step: Step) -> MakeRow {
     Box::new(move |operations| {
         let filling: Vec<Step> = (0..PLACES)
-            .map(|place| Step { record: statement(place), number: ENTER, ..Step::default() })
+            .map(|place| Step { statement: statement(place), number: ENTER, ..Step::default() })
             .collect();
         let mut whole = filling.clone();
         whole.extend(std::iter::repeat_n(step, operations));
@@ -74,8 +74,8 @@ pub fn rows() -> Vec<MakeRow> {
             ("count of all 4, f = 1", COUNT, last, 4),
             ("count of all 16, f = 5", COUNT, last, 16),
         ];
-        for (what, number, record, replicas) in steps {
-            let step = Step { record, number, replicas, ..Step::default() };
+        for (what, number, statement, replicas) in steps {
+            let step = Step { statement, number, replicas, ..Step::default() };
             rows.push(row(format!("{name} of {PLACES}: {what}"), over, step));
         }
     }

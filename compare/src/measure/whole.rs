@@ -60,13 +60,13 @@ fn repeated(name: String, life: Life, call: (u64, [u64; 5]), comes_to: (u8, u8))
 }
 
 /// Replica 0 delivered all slots but the last, and the tape is full.
-fn deliver_refused(f: u64) -> MakeRow {
-    let mut life = opened(f, Kind::Rating);
+fn deliver_refused(f: u64, kind: Kind) -> MakeRow {
+    let mut life = opened(f, kind);
     life.stamp_all();
     life.deliver(0, 0..63);
     life.forge_some(PLACES - 63);
     let call = (number::DELIVER, [0, 63, 0, 0, 0]);
-    repeated(format!("deliver slot 63, refused on 18, f = {f}"), life, call, (REFUSED, 18))
+    repeated(format!("deliver slot 63, refused, {kind:?}, f = {f}"), life, call, (REFUSED, 18))
 }
 
 /// Every honest replica delivers every slot, and fills the tape with the last.
@@ -126,7 +126,8 @@ pub fn rows(seed: u64) -> Vec<MakeRow> {
     let mut rows = Vec::new();
     for f in [1, 5] {
         rows.extend([
-            deliver_refused(f),
+            deliver_refused(f, Kind::Rating),
+            deliver_refused(f, Kind::Allotment),
             deliver_granted(f),
             certificate(f, YES),
             certificate(f, NO),

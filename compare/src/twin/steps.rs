@@ -23,13 +23,13 @@ fn certain(yes: bool) -> (u8, u8) {
 /// What comes of a step: its outcome and its value.
 fn take(register: &mut impl Register, step: &Step) -> (u8, u8) {
     match step.number {
-        ASK => certain(register.ask(&step.record)),
+        ASK => certain(register.ask(&step.statement)),
         IS_EMPTY => certain(register.is_empty()),
-        ENTER => match register.enter(&step.record) {
+        ENTER => match register.enter(&step.statement) {
             Ok(()) => (GRANTED, 0),
             Err(refusal) => (REFUSED, refusal.ground),
         },
-        COUNT => (COUNTED, register.count(step.record, step.replicas.min(16)) as u8),
+        COUNT => (COUNTED, register.count(step.statement, step.replicas.min(16)) as u8),
         _ => (UNKNOWN, 0),
     }
 }
