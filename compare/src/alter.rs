@@ -12,7 +12,7 @@ use crate::twin::record::PLACE;
 type Alter = fn(&Life, &mut Ran, &mut Random) -> bool;
 
 /// What is altered of a life that ran.
-pub const OF_A_LIFE: [(&str, Alter); 26] = [
+pub const OF_A_LIFE: [(&str, Alter); 29] = [
     ("answer", |_, ran, _| {
         ran.answer = 3;
         true
@@ -74,12 +74,20 @@ pub const OF_A_LIFE: [(&str, Alter); 26] = [
     }),
     ("byte of a place not used", |life, ran, random| {
         let used = life.used.last().map_or(0, |used| used * PLACE);
-        let whole = ran.tape.len() / PLACE * PLACE;
-        of_tape(ran, used, whole, random)
+        of_tape(ran, used, life.tape.len() / PLACE * PLACE, random)
     }),
-    ("byte left over", |_, ran, random| {
-        let length = ran.tape.len();
+    ("byte left over", |life, ran, random| {
+        let length = life.tape.len();
         of_tape(ran, length / PLACE * PLACE, length, random)
+    }),
+    ("byte after the tape", |life, ran, random| {
+        of_tape(ran, life.tape.len(), ran.tape.len(), random)
+    }),
+    ("memory after the outcomes", |life, ran, random| {
+        flip(&mut ran.outcomes.words_mut()[life.room * size_of::<Outcome>() / 8..], random)
+    }),
+    ("memory after the status", |_, ran, random| {
+        flip(&mut ran.status.words_mut()[size_of::<Status>() / 8..], random)
     }),
     ("two operations exchanged", |_, ran, _| {
         let operations = &mut ran.status.values_mut()[0].operations;
@@ -189,7 +197,7 @@ fn later_witness(life: &Life, ran: &mut Ran, _: &mut Random) -> bool {
 fn name_another(life: &Life, ran: &mut Ran, fits: fn(Option<usize>, usize) -> bool) -> bool {
     let Ran { tape, outcomes, .. } = ran;
     let held = &tape[..life.used.last().map_or(0, |used| used * PLACE)];
-    for (place, told) in outcomes.values_mut().iter_mut().enumerate() {
+    for (place, told) in outcomes.values_mut()[..life.room].iter_mut().enumerate() {
         let Some(statement) = asked(&life.calls[place]).filter(|_| told.kind == YES) else {
             continue;
         };

@@ -37,6 +37,7 @@ fn numbered_life(seed: u64, number: u64) -> (Life, Random) {
 /// Puts on the tape, before the life, the statements that it enters, at other places.
 fn hold_before(life: &mut Life, random: &mut Random) {
     let mut tape = life.run(&life.memory(random), twin::life::run_life::<ByAny>).tape;
+    tape.truncate(life.tape.len());
     let places = tape.len() / PLACE;
     if places > 0 {
         let by = random.below(places as u64) as usize;

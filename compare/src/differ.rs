@@ -1,6 +1,6 @@
 //! What differs between what the library left of a life and what the twin left.
 
-use crate::abi::{Call, Outcome, Record, Replica, Status, YES};
+use crate::abi::{Call, Memory, Outcome, Plain, Record, Replica, Status, YES};
 use crate::generate::number;
 use crate::lives::{Life, Ran};
 use crate::twin::record::PLACE;
@@ -11,25 +11,33 @@ pub fn differences(life: &Life, before: &Ran, ours: &Ran, twin: &Ran) -> Vec<Str
     let mut found = Vec::new();
     if ours.answer != twin.answer {
         found.push(format!("answer {}, by the twin {}", ours.answer, twin.answer));
-    } else if ours.answer == 0 {
+        return found;
+    }
+    let (mut outcomes, mut status) = (0, 0);
+    if ours.answer == 0 {
         compare_outcomes(life, ours, twin, &mut found);
         compare_status(&ours.status.values()[0], &twin.status.values()[0], &mut found);
-        compare_bytes("tape", &ours.tape, &twin.tape, &mut found);
-    } else {
-        compare_bytes("tape of no life", &ours.tape, &before.tape, &mut found);
-        compare_words(
-            "outcomes of no life",
-            ours.outcomes.words(),
-            before.outcomes.words(),
-            &mut found,
-        );
-        compare_words("status of no life", ours.status.words(), before.status.words(), &mut found);
+        (outcomes, status) = (life.room * size_of::<Outcome>() / 8, size_of::<Status>() / 8);
     }
+    // All other memory is as it was; so is the twin's tape where it did not write.
+    compare_bytes("tape", &ours.tape, &twin.tape, &mut found);
+    compare_rest("outcomes", outcomes, &ours.outcomes, &before.outcomes, &mut found);
+    compare_rest("status", status, &ours.status, &before.status, &mut found);
     found
 }
 
+fn compare_rest<T: Plain>(
+    name: &str,
+    from: usize,
+    ours: &Memory<T>,
+    before: &Memory<T>,
+    found: &mut Vec<String>,
+) {
+    compare_words(name, &ours.words()[from..], &before.words()[from..], found);
+}
+
 fn compare_outcomes(life: &Life, ours: &Ran, twin: &Ran, found: &mut Vec<String>) {
-    let pairs = ours.outcomes.values().iter().zip(twin.outcomes.values());
+    let pairs = ours.outcomes.values().iter().zip(twin.outcomes.values()).take(life.room);
     for (place, (our, other)) in pairs.enumerate() {
         let alike = (our.kind, our.ground, our.place) == (other.kind, other.ground, other.place);
         let seen = &life.outcomes[place];
@@ -109,7 +117,9 @@ pub fn compare_bytes(name: &str, ours: &[u8], twin: &[u8], found: &mut Vec<Strin
 pub fn compare_words(name: &str, ours: &[u64], twin: &[u64], found: &mut Vec<String>) {
     for (place, (our, other)) in ours.iter().zip(twin).enumerate() {
         if our != other {
-            found.push(format!("{name}: word {place} is {our:#x} and not {other:#x}"));
+            found.push(format!(
+                "{name}: of the words that are not written, {place} is {our:#x} and not {other:#x}"
+            ));
         }
     }
 }

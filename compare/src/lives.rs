@@ -23,7 +23,11 @@ pub struct Life {
 /// Who runs a life: the library or the twin.
 pub type Runner = fn(Given, Written) -> u8;
 
-/// The memory that a life writes to, and its answer.
+/// How many bytes lie after the tape that are not handed over.
+pub const AFTER: usize = 32;
+
+/// The memory that a life writes to, and its answer. After the tape, the outcomes and the status
+/// there is memory that is not handed over.
 #[derive(Clone)]
 pub struct Ran {
     pub answer: u8,
@@ -51,11 +55,12 @@ impl Life {
 
     /// The memory for a run as it is before: random bytes.
     pub fn memory(&self, random: &mut Random) -> Ran {
+        let after = (0..AFTER).map(|_| random.any() as u8);
         Ran {
             answer: 0,
-            tape: self.tape.clone(),
-            outcomes: Memory::new(self.room, || random.any()),
-            status: Memory::new(1, || random.any()),
+            tape: self.tape.iter().copied().chain(after).collect(),
+            outcomes: Memory::new(self.room + 1, || random.any()),
+            status: Memory::new(2, || random.any()),
         }
     }
 
@@ -68,9 +73,9 @@ impl Life {
 
     /// Runs the life on this memory.
     pub fn run_in(&self, ran: &mut Ran, runner: Runner) -> u8 {
-        let Ran { tape, outcomes, status, .. } = ran;
-        let written =
-            Written { tape, outcomes: outcomes.values_mut(), status: &mut status.values_mut()[0] };
-        runner(self.given(), written)
+        let tape = &mut ran.tape[..self.tape.len()];
+        let outcomes = &mut ran.outcomes.values_mut()[..self.room];
+        let status = &mut ran.status.values_mut()[0];
+        runner(self.given(), Written { tape, outcomes, status })
     }
 }

@@ -38,7 +38,7 @@ pub struct Tally {
 impl Tally {
     pub fn add_life(&mut self, life: &Life, ran: &Ran) {
         self.lives += 1;
-        self.tape_bytes += ran.tape.len() as u64;
+        self.tape_bytes += life.tape.len() as u64;
         *self.answers.entry(ran.answer).or_default() += 1;
         if ran.answer != 0 {
             return;
