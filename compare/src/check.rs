@@ -114,14 +114,19 @@ pub fn check_registers(seed: u64, steps: u64, tally: &mut Tally) {
     let mut progress = Progress::new("steps on registers", steps);
     let mut number = 0;
     while tally.steps < steps {
-        let before = numbered_sequence(seed, number);
-        let (ours, twin) = (before.run_by_library(), before.run_by_twin());
-        let found = sequences::differences(&before, &ours, &twin);
-        report(tally, &format!("sequence {number} of seed {seed}"), &found);
-        tally.add_sequence(&twin);
+        check_sequence(seed, number, tally);
         progress.tell(tally.steps);
         number += 1;
     }
+}
+
+/// Compares one sequence.
+pub fn check_sequence(seed: u64, number: u64, tally: &mut Tally) {
+    let before = numbered_sequence(seed, number);
+    let (ours, twin) = (before.run_by_library(), before.run_by_twin());
+    let found = sequences::differences(&before, &ours, &twin);
+    report(tally, &format!("sequence {number} of seed {seed}"), &found);
+    tally.add_sequence(&twin);
 }
 
 fn numbered_sequence(seed: u64, number: u64) -> Sequence {

@@ -17,7 +17,7 @@ use std::process::ExitCode;
 
 use tally::Tally;
 
-const USAGE: &str = "options: --seed N, --calls N, --steps N, --rounds N, --life N (this one only)";
+const USAGE: &str = "options: --seed N, --calls N, --steps N, --rounds N, --life N, --sequence N";
 
 /// What the arguments ask for.
 struct Options {
@@ -26,11 +26,18 @@ struct Options {
     steps: u64,
     rounds: u64,
     life: Option<u64>,
+    sequence: Option<u64>,
 }
 
 fn options() -> Option<Options> {
-    let mut options =
-        Options { seed: 1, calls: 3_000_000, steps: 3_000_000, rounds: 60, life: None };
+    let mut options = Options {
+        seed: 1,
+        calls: 3_000_000,
+        steps: 3_000_000,
+        rounds: 60,
+        life: None,
+        sequence: None,
+    };
     let mut arguments = std::env::args().skip(1);
     while let Some(name) = arguments.next() {
         let number = arguments.next()?.parse().ok()?;
@@ -40,6 +47,7 @@ fn options() -> Option<Options> {
             "--steps" => options.steps = number,
             "--rounds" => options.rounds = number,
             "--life" => options.life = Some(number),
+            "--sequence" => options.sequence = Some(number),
             _ => return None,
         }
     }
@@ -56,20 +64,29 @@ fn main() -> ExitCode {
 
 /// Does what is asked for; whether there was no difference and everything was reached.
 fn run(options: &Options) -> bool {
+    println!("seed {}", options.seed);
     let mut tally = Tally::default();
     if let Some(number) = options.life {
         check::check_life(options.seed, number, &mut tally);
-        return tally.differences == 0;
     }
-    println!("seed {}", options.seed);
-    let comparer = check::check_comparer(options.seed);
-    check::check_lives(options.seed, options.calls, &mut tally);
-    let reached = report::print_lives(&tally);
-    check::check_registers(options.seed, options.steps, &mut tally);
-    report::print_registers(&tally);
+    if let Some(number) = options.sequence {
+        check::check_sequence(options.seed, number, &mut tally);
+    }
+    let only = options.life.or(options.sequence).is_some();
+    let right = only || run_all(options, &mut tally);
+    println!("\ndifferences: {}", tally.differences);
+    right && tally.differences == 0
+}
+
+/// Whether the comparer noticed every alteration, and everything was reached.
+fn run_all(options: &Options, tally: &mut Tally) -> bool {
+    let noticed = check::check_comparer(options.seed);
+    check::check_lives(options.seed, options.calls, tally);
+    let lives = report::print_lives(tally);
+    check::check_registers(options.seed, options.steps, tally);
+    let registers = report::print_registers(tally);
     if options.rounds > 0 {
         measure::measure(options.seed, options.rounds as usize);
     }
-    println!("\ndifferences: {}", tally.differences);
-    comparer && reached && tally.differences == 0
+    noticed && lives && registers
 }

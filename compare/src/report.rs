@@ -110,18 +110,31 @@ fn is_reached(tally: &Tally) -> bool {
     rare.is_empty()
 }
 
-/// Prints the table of the registers.
-pub fn print_registers(tally: &Tally) {
+/// Prints the table of the registers; whether everything was reached.
+pub fn print_registers(tally: &Tally) -> bool {
     const STEPS: [&str; 5] = ["none", "ask", "is_empty", "enter", "count"];
     const OUTCOMES: [&str; 6] = ["nothing", "granted", "yes", "no", "refused", "counted"];
-    println!("\nregister      step      outcome   how often");
-    for ((over, number, outcome), times) in &tally.outcomes {
-        let step = STEPS.get(usize::from(*number)).unwrap_or(&"?");
-        let outcome = OUTCOMES.get(usize::from(*outcome)).unwrap_or(&"?");
-        println!("{over:13} {step:9} {outcome:8}  {times:9}");
+    // Of each of three registers: no step, two answers of two questions, three of enter, a count.
+    const ALL: usize = 3 * (1 + 4 + 3 + 1);
+    println!("\nregister     step      outcome        how often");
+    for (&(over, number, outcome, ground), times) in &tally.outcomes {
+        let step = STEPS.get(usize::from(number)).unwrap_or(&"?");
+        let outcome = OUTCOMES.get(usize::from(outcome)).unwrap_or(&"?");
+        let ground = if ground == 0 { String::new() } else { format!(" on {ground}") };
+        println!(
+            "{:12} {step:9} {:13} {times:10}",
+            format!("{over:?}"),
+            format!("{outcome}{ground}")
+        );
     }
     println!(
         "compared: {} sequences, {} steps, {} bytes of memory",
         tally.sequences, tally.steps, tally.memory_bytes
     );
+    let enough = tally.steps / 50_000;
+    let often = tally.outcomes.values().filter(|&&times| times >= enough).count();
+    if often < ALL && enough > 0 {
+        println!("REACHED TOO SELDOM (under {enough} times): {} of these {ALL}", ALL - often);
+    }
+    often == ALL || enough == 0
 }

@@ -9,7 +9,7 @@ use crate::twin::register::ByAny;
 use crate::twin::steps::{self, ASK, COUNT, ENTER, IS_EMPTY};
 
 /// Which register the steps are on.
-#[derive(Clone, Copy, Debug, PartialEq, Eq)]
+#[derive(Clone, Copy, Debug, PartialEq, Eq, PartialOrd, Ord)]
 pub enum Over {
     Table,
     Tape,

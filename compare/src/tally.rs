@@ -7,6 +7,7 @@ use crate::generate::number;
 use crate::lives::{Life, Ran};
 use crate::sequences::{Over, Sequence};
 use crate::twin::picks::top;
+use crate::twin::steps;
 
 pub const CALLS: usize = 17;
 pub const GROUNDS: usize = 19;
@@ -29,8 +30,8 @@ pub struct Tally {
     pub reached: BTreeMap<&'static str, u64>,
     pub sequences: u64,
     pub steps: u64,
-    /// By the register, the number of the step and its outcome.
-    pub outcomes: BTreeMap<(String, u8, u8), u64>,
+    /// By the register, the number of the step, its outcome, and its ground if it is refused.
+    pub outcomes: BTreeMap<(Over, u8, u8, u8), u64>,
     pub memory_bytes: u64,
     pub differences: u64,
 }
@@ -104,7 +105,8 @@ impl Tally {
         };
         for step in &ran.steps {
             let number = if step.outcome == 0 { 0 } else { step.number };
-            let key = (format!("{:?}", ran.over), number, step.outcome);
+            let ground = if step.outcome == steps::REFUSED { step.value } else { 0 };
+            let key = (ran.over, number, step.outcome, ground);
             *self.outcomes.entry(key).or_default() += 1;
         }
     }
