@@ -221,7 +221,6 @@ pub unsafe trait Plain: Copy {}
 unsafe impl Plain for Outcome {}
 unsafe impl Plain for Status {}
 unsafe impl Plain for Record {}
-unsafe impl Plain for Step {}
 
 /// Memory for some values, of which each byte can be read, also those between fields.
 #[derive(Clone)]

@@ -9,7 +9,7 @@ use crate::sequences::Sequence;
 use crate::twin::record::PLACE;
 
 /// Alters what a run left; no where the life has nothing to alter so.
-type Alter = fn(&Life, &mut Ran, &mut Random) -> bool;
+pub type Alter = fn(&Life, &mut Ran, &mut Random) -> bool;
 
 /// What is altered of a life that ran.
 pub const OF_A_LIFE: [(&str, Alter); 29] = [

@@ -1,9 +1,8 @@
-//! Runs the comparisons: of the comparer itself, of lives, and of registers.
+//! Runs the comparisons of lives and of registers.
 
 use std::time::{Duration, Instant};
 
 use crate::abi;
-use crate::alter::{OF_A_LIFE, OF_A_SEQUENCE, OF_NO_LIFE, reorder};
 use crate::differ;
 use crate::generate::{Size, life_of, mishand, plan, retrace};
 use crate::lives::{Life, Ran};
@@ -14,13 +13,11 @@ use crate::twin;
 use crate::twin::record::PLACE;
 use crate::twin::register::ByAny;
 
-/// How often each alteration is tried.
-const TRIES: u64 = 40;
 /// How many differences are printed in full.
 const PRINTED: u64 = 5;
 
 /// The life of a number: a random one, or one in twelve that is handed over wrongly.
-fn numbered_life(seed: u64, number: u64) -> (Life, Random) {
+pub fn numbered_life(seed: u64, number: u64) -> (Life, Random) {
     let mut random = Random::new(Random::new(seed ^ number.rotate_left(32)).any());
     let size = if number % 12 == 11 { Size::Calls(number as usize % 40) } else { Size::Any };
     let plan = plan(&mut random, size);
@@ -46,14 +43,14 @@ fn hold_before(life: &mut Life, random: &mut Random) {
     life.tape = tape;
 }
 
-/// A life run by both: the memory before, and that after each.
-struct Both {
-    before: Ran,
-    ours: Ran,
-    twin: Ran,
+/// A life run by the library and the twin: the memory before, and that after each.
+pub struct Both {
+    pub before: Ran,
+    pub ours: Ran,
+    pub twin: Ran,
 }
 
-fn run_both(life: &Life, random: &mut Random) -> Both {
+pub fn run_both(life: &Life, random: &mut Random) -> Both {
     let before = life.memory(random);
     let ours = life.run(&before, abi::run_life);
     let twin = life.run(&before, twin::life::run_life::<ByAny>);
@@ -129,88 +126,6 @@ pub fn check_sequence(seed: u64, number: u64, tally: &mut Tally) {
     tally.add_sequence(&twin);
 }
 
-fn numbered_sequence(seed: u64, number: u64) -> Sequence {
+pub fn numbered_sequence(seed: u64, number: u64) -> Sequence {
     Sequence::new(&mut Random::new(Random::new(!seed ^ number.rotate_left(32)).any()))
-}
-
-/// Counts of a check of the comparer.
-#[derive(Default)]
-struct Noticed {
-    noticed: u64,
-    tried: u64,
-    bad: Vec<&'static str>,
-}
-
-impl Noticed {
-    fn add(&mut self, name: &'static str, noticed: bool, wanted: bool) {
-        self.tried += 1;
-        self.noticed += u64::from(noticed == wanted);
-        if noticed != wanted && !self.bad.contains(&name) {
-            self.bad.push(name);
-        }
-    }
-}
-
-/// Tries each alteration on lives and on sequences; whether the comparer noticed every one.
-pub fn check_comparer(seed: u64) -> bool {
-    let mut noticed = Noticed::default();
-    alter_lives(seed, &mut noticed);
-    alter_sequences(seed, &mut noticed);
-    let kinds = OF_A_LIFE.len() + OF_NO_LIFE.len() + OF_A_SEQUENCE.len() + 1;
-    println!(
-        "comparer: {} of {} alterations of {kinds} kinds taken rightly",
-        noticed.noticed, noticed.tried
-    );
-    println!(
-        "  ({} that make a difference, and witnesses in another order, which make none)",
-        kinds - 1
-    );
-    for name in &noticed.bad {
-        println!("  NOT RIGHTLY: {name}");
-    }
-    noticed.bad.is_empty() && noticed.tried == kinds as u64 * TRIES
-}
-
-fn alter_lives(seed: u64, noticed: &mut Noticed) {
-    let mut tried = [0; OF_A_LIFE.len() + OF_NO_LIFE.len() + 1];
-    for number in 0..20_000 {
-        let (life, mut random) = numbered_life(seed, number);
-        let Both { before, ours, twin } = run_both(&life, &mut random);
-        let (offset, list) =
-            if ours.answer == 0 { (0, &OF_A_LIFE[..]) } else { (OF_A_LIFE.len(), &OF_NO_LIFE[..]) };
-        for (place, (name, alter)) in list.iter().enumerate() {
-            let mut altered = ours.clone();
-            if tried[offset + place] < TRIES && alter(&life, &mut altered, &mut random) {
-                let found = differ::differences(&life, &before, &altered, &twin);
-                noticed.add(name, !found.is_empty(), true);
-                tried[offset + place] += 1;
-            }
-        }
-        let (mut altered, last) = (ours.clone(), tried.len() - 1);
-        if tried[last] < TRIES && ours.answer == 0 && reorder(&life, &mut altered, &mut random) {
-            let found = differ::differences(&life, &before, &altered, &twin);
-            noticed.add("witnesses in another order", !found.is_empty(), false);
-            tried[last] += 1;
-        }
-        if tried.iter().all(|&tries| tries == TRIES) {
-            return;
-        }
-    }
-}
-
-fn alter_sequences(seed: u64, noticed: &mut Noticed) {
-    let mut random = Random::new(seed);
-    for (name, alter) in OF_A_SEQUENCE {
-        let (mut tries, mut number) = (0, 0);
-        while tries < TRIES {
-            let before = numbered_sequence(seed, number);
-            let (mut ours, twin) = (before.run_by_library(), before.run_by_twin());
-            if alter(&mut ours, &mut random) {
-                let found = sequences::differences(&before, &ours, &twin);
-                noticed.add(name, !found.is_empty(), true);
-                tries += 1;
-            }
-            number += 1;
-        }
-    }
 }

@@ -3,6 +3,7 @@
 mod abi;
 mod alter;
 mod check;
+mod comparer;
 mod differ;
 mod generate;
 mod lives;
@@ -80,7 +81,7 @@ fn run(options: &Options) -> bool {
 
 /// Whether the comparer noticed every alteration, and everything was reached.
 fn run_all(options: &Options, tally: &mut Tally) -> bool {
-    let noticed = check::check_comparer(options.seed);
+    let noticed = comparer::check_comparer(options.seed);
     check::check_lives(options.seed, options.calls, tally);
     let lives = report::print_lives(tally);
     check::check_registers(options.seed, options.steps, tally);

@@ -91,12 +91,12 @@ fn mishand_once(life: &mut Life, random: &mut Random) {
         2 => life.foreign |= 1 << random.within((3 * life.f + 1).min(63), 63),
         3 => life.foreign = mask(random, 3 * life.f.min(5) + 1, life.f.min(5) + 1),
         4 => life.room = random.of(&[0, 1, life.room + 1, life.room + 20, life.room / 2]),
-        _ => spoil_call(life, random),
+        _ => make_unreadable(life, random),
     }
 }
 
 /// Makes a call into one that cannot be read.
-fn spoil_call(life: &mut Life, random: &mut Random) {
+fn make_unreadable(life: &mut Life, random: &mut Random) {
     let place = random.below(life.calls.len().max(1) as u64) as usize;
     let held = life.records.len() as u64;
     let Some(call) = life.calls.get_mut(place) else {
