@@ -88,7 +88,11 @@ fn mishand_once(life: &mut Life, random: &mut Random) {
     match random.below(8) {
         0 => life.f = random.of(&[0, 6, 7, 16, 255, 256 + life.f, 1 << 32, u64::MAX]),
         1 => life.f = random.odd(),
-        2 => life.foreign |= 1 << random.within((3 * life.f + 1).min(63), 63),
+        2 => {
+            let n = (3 * life.f.min(20) + 1).min(63);
+            let others = if random.percent(50) { life.foreign } else { 0 };
+            life.foreign = others | 1 << random.of(&[n, n + (63 - n) / 2, 63]);
+        }
         3 => life.foreign = mask(random, 3 * life.f.min(5) + 1, life.f.min(5) + 1),
         4 => life.room = random.of(&[0, 1, life.room + 1, life.room + 20, life.room / 2]),
         _ => make_unreadable(life, random),

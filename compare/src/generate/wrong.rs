@@ -112,7 +112,7 @@ impl<S: Service> Making<'_, S> {
         let earlier = self.random.below(place.max(1) as u64) as usize;
         let top = crate::twin::picks::top(picks);
         let other = self.random.below(picks.len() as u64) as usize;
-        match self.random.below(12) {
+        match self.random.below(13) {
             0..=2 => break_layout(&mut picks[place], &mut self.random),
             3 => picks.swap(place, other),
             4 => picks[place] = self.random.of(picks.as_slice()),
@@ -126,13 +126,19 @@ impl<S: Service> Making<'_, S> {
             8 => picks[place].slot = picks[place].slot.saturating_sub(1),
             9 => picks[place].last = self.random.below(picks[place].view.max(1).into()) as u8,
             10 => picks[place].signer = self.random.within(self.bench.n.min(15).into(), 15) as u8,
-            _ => {
-                let kind = self.random.within(1, 9) as u8;
-                if let Some(found) = self.a_statement(kind) {
-                    picks[place] = found;
-                }
-            }
+            _ => picks[place] = self.other_statement(picks[place]),
         }
+    }
+
+    /// Another statement in the register: one of the same signer and view if there is one, else
+    /// any.
+    fn other_statement(&mut self, pick: Record) -> Record {
+        let held: Vec<Record> = self.bench.register.statements().collect();
+        let like = |other: &&Record| {
+            (other.signer, other.view) == (pick.signer, pick.view) && other.kind != pick.kind
+        };
+        let like = held.iter().find(like);
+        like.or_else(|| self.random.pick(&held)).copied().unwrap_or(pick)
     }
 
     /// Takes a pick away, adds one, or takes all.
