@@ -80,7 +80,7 @@ fn enough(make: &MakeRow) -> usize {
 /// Prints a table of all rows.
 pub fn measure(seed: u64, rounds: usize) {
     println!(
-        "\n{:40} {:>10} {:>10} {:>6} {:>10} {:>6}",
+        "\n{:46} {:>10} {:>10} {:>6} {:>10} {:>6}",
         "ns for an operation", "library", "twin", "/lib", "contains", "/lib"
     );
     for make in registers::rows().into_iter().chain(whole::rows(seed)) {
@@ -88,7 +88,7 @@ pub fn measure(seed: u64, rounds: usize) {
         let [library, any, contains] = row.times(rounds);
         let ratios = [any / library, contains / library];
         println!(
-            "{:40} {library:10.1} {any:10.1} {:6.2} {contains:10.1} {:6.2}",
+            "{:46} {library:10.1} {any:10.1} {:6.2} {contains:10.1} {:6.2}",
             row.name, ratios[0], ratios[1]
         );
     }

@@ -7,9 +7,9 @@ use crate::lives::Life;
 use crate::random::Random;
 use crate::twin::record::PLACE;
 
-/// A life with only its open: the last replica is foreign, and the tape has 1,024 places.
-fn opened(f: u64, kind: Kind) -> Life {
-    Life::opened(kind, f, 1 << (3 * f), vec![0; PLACES * PLACE])
+/// A life with only its open: the last replica is foreign, and the tape has this many places.
+fn opened(f: u64, kind: Kind, places: usize) -> Life {
+    Life::opened(kind, f, 1 << (3 * f), vec![0; places * PLACE])
 }
 
 impl Life {
@@ -60,21 +60,22 @@ fn repeated(name: String, life: Life, call: (u64, [u64; 5]), comes_to: (u8, u8))
 }
 
 /// Replica 0 delivered all slots but the last, and the tape is full.
-fn deliver_refused(f: u64, kind: Kind) -> MakeRow {
-    let mut life = opened(f, kind);
+fn deliver_refused(f: u64, kind: Kind, places: usize) -> MakeRow {
+    let mut life = opened(f, kind, places);
     life.stamp_all();
     life.deliver(0, 0..63);
-    life.forge_some(PLACES - 63);
+    life.forge_some(places - 63);
     let call = (number::DELIVER, [0, 63, 0, 0, 0]);
-    repeated(format!("deliver slot 63, refused, {kind:?}, f = {f}"), life, call, (REFUSED, 18))
+    let name = format!("deliver, refused, {places} places, {kind:?}, f = {f}");
+    repeated(name, life, call, (REFUSED, 18))
 }
 
 /// Every honest replica delivers every slot, and fills the tape with the last.
 fn deliver_granted(f: u64) -> MakeRow {
     Box::new(move |_| {
-        let name = format!("deliver slots 0 to 63, granted, f = {f}");
+        let name = format!("deliver, granted, slots 0 to 63, f = {f}");
         let delivered = 64 * 3 * f as usize;
-        let mut before = opened(f, Kind::Rating);
+        let mut before = opened(f, Kind::Rating, PLACES);
         before.stamp_all();
         before.forge_some(PLACES - delivered);
         let mut whole = before.clone();
@@ -89,7 +90,7 @@ fn deliver_granted(f: u64) -> MakeRow {
 /// The answer that a quorum said in the last places of a full tape, or another.
 fn certificate(f: u64, kind: u8) -> MakeRow {
     let quorum = 2 * f as usize + 1;
-    let mut life = opened(f, Kind::Allotment);
+    let mut life = opened(f, Kind::Allotment, PLACES);
     life.add(number::STAMP, [1 << 62 | 7 << 26, 0, 0, 0, 0]);
     life.forge_some(PLACES - quorum);
     for replica in 0..quorum as u64 {
@@ -126,8 +127,10 @@ pub fn rows(seed: u64) -> Vec<MakeRow> {
     let mut rows = Vec::new();
     for f in [1, 5] {
         rows.extend([
-            deliver_refused(f, Kind::Rating),
-            deliver_refused(f, Kind::Allotment),
+            deliver_refused(f, Kind::Rating, 64),
+            deliver_refused(f, Kind::Allotment, 64),
+            deliver_refused(f, Kind::Rating, PLACES),
+            deliver_refused(f, Kind::Allotment, PLACES),
             deliver_granted(f),
             certificate(f, YES),
             certificate(f, NO),
