@@ -96,6 +96,18 @@ impl Sequence {
         ran
     }
 
+    /// How many different statements were entered.
+    fn entered(&self) -> usize {
+        let granted = |step: &&Step| step.number == ENTER && step.outcome == steps::GRANTED;
+        let mut entered: Vec<Record> = Vec::new();
+        for Step { statement, .. } in self.steps.iter().filter(granted) {
+            if !entered.contains(statement) {
+                entered.push(*statement);
+            }
+        }
+        entered.len()
+    }
+
     pub fn run_by_twin(&self) -> Sequence {
         let mut ran = self.clone();
         match self.over {
@@ -122,11 +134,11 @@ pub fn differences(before: &Sequence, ours: &Sequence, twin: &Sequence) -> Vec<S
             found.push(format!("place {place}: {our:?}, by the twin {other:?}"));
         }
     }
-    // Places that no statement was written to are as they were, byte by byte.
-    let held = before.table.values();
-    let used = other.iter().zip(held).rposition(|(after, before)| after != before);
-    let unused = used.map_or(0, |last| last + 1) * size_of::<Record>() / 8;
+    // Places that no statement was written to are as they were, also the bytes between fields.
+    let unused = twin.entered() * size_of::<Record>() / 8;
     let (words, held) = (ours.table.words(), before.table.words());
-    compare_words("unused table", &words[unused..], &held[unused..], &mut found);
+    if ours.over == Over::Table {
+        compare_words("unused table", &words[unused..], &held[unused..], &mut found);
+    }
     found
 }
