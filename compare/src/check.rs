@@ -16,13 +16,14 @@ use crate::twin::register::ByAny;
 /// How many differences are printed in full.
 const PRINTED: u64 = 5;
 
-/// The life of a number: a random one, or one in twelve that is handed over wrongly.
+/// The life of a number: a random one; one in six is handed over wrongly.
 pub fn numbered_life(seed: u64, number: u64) -> (Life, Random) {
     let mut random = Random::new(Random::new(seed ^ number.rotate_left(32)).any());
-    let size = if number % 12 == 11 { Size::Calls(number as usize % 40) } else { Size::Any };
+    let wrongly = number % 6 == 5;
+    let size = if wrongly { Size::Calls(number as usize % 40) } else { Size::Any };
     let plan = plan(&mut random, size);
     let mut life = life_of(plan, random.clone());
-    if number % 12 == 11 {
+    if wrongly {
         mishand(&mut life, &mut random);
         retrace(&mut life);
     } else if random.percent(25) {

@@ -80,9 +80,9 @@ fn print_grounds(tally: &Tally) {
     }
 }
 
-/// Prints what was not reached often enough: once in 50,000 calls each.
+/// Prints what was not reached often enough: once in 100,000 calls each.
 fn is_reached(tally: &Tally) -> bool {
-    let enough = tally.calls / 50_000;
+    let enough = tally.calls / 100_000;
     let mut rare = Vec::new();
     for (number, name) in NAMES.iter().enumerate().skip(1) {
         let [_, granted, yes, no, _] = tally.kinds[number];
@@ -131,7 +131,7 @@ pub fn print_registers(tally: &Tally) -> bool {
         "compared: {} sequences, {} steps, {} bytes of memory",
         tally.sequences, tally.steps, tally.memory_bytes
     );
-    let enough = tally.steps / 50_000;
+    let enough = tally.steps / 100_000;
     let often = tally.outcomes.values().filter(|&&times| times >= enough).count();
     if often < ALL && enough > 0 {
         println!("REACHED TOO SELDOM (under {enough} times): {} of these {ALL}", ALL - often);

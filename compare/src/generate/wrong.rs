@@ -108,7 +108,12 @@ impl<S: Service> Making<'_, S> {
             self.change_count(picks);
             return;
         }
-        let place = self.random.below(picks.len() as u64) as usize;
+        let last = picks.len() - 1;
+        let place = if self.random.percent(20) {
+            last
+        } else {
+            self.random.below(last as u64 + 1) as usize
+        };
         let earlier = self.random.below(place.max(1) as u64) as usize;
         let top = crate::twin::picks::top(picks);
         let other = self.random.below(picks.len() as u64) as usize;
