@@ -9,13 +9,12 @@ ghost use Rattle.registers.specs.Tables.{with_first};
 ghost use Rattle.tape.specs.Tapes.{with_packed};
 ghost use Rattle.registers_c.specs.Steps.{added_by, UsesEmpty};
 
+mod over;
 mod step;
 
-use crate::step::use_register;
+use crate::over::{use_sheets, use_table, use_tape};
 use record::Record;
-use registers::{SpareSheet, Table};
 pub use step::Step;
-use tape::Tape;
 
 /// Makes the steps on an empty register over the tape. The statements that they add stand packed at
 /// its start, in order; the other bytes are as they were.
@@ -24,7 +23,7 @@ pub extern "C" fn fotsgari_use_tape(tape: &mut [u8], steps: &mut [Step])
     ensures steps { UsesEmpty (places tape.old) steps.old steps.new }
     ensures tape { tape.new ≡ with_packed (added_by nothing (places tape.old) steps.old) tape.old }
 {
-    use_register(&mut Tape::new(tape), steps);
+    use_tape(tape, steps);
 }
 
 /// Makes the steps on an empty register over the table. The statements that they add stand in its
@@ -34,7 +33,7 @@ pub extern "C" fn fotsgari_use_table(table: &mut [Record], steps: &mut [Step])
     ensures steps { UsesEmpty (length table.old) steps.old steps.new }
     ensures table { table.new ≡ with_first (added_by nothing (length table.old) steps.old) table.old }
 {
-    use_register(&mut Table::new(table), steps);
+    use_table(table, steps);
 }
 
 /// Makes the steps on an empty register of 32 places of its own: two spare sheets over a table
@@ -43,6 +42,5 @@ pub extern "C" fn fotsgari_use_table(table: &mut [Record], steps: &mut [Step])
 pub extern "C" fn fotsgari_use_sheets(steps: &mut [Step])
     ensures { UsesEmpty 32 steps.old steps.new }
 {
-    let table = Table::new(&mut []);
-    use_register(&mut SpareSheet::new(SpareSheet::new(table)), steps);
+    use_sheets(steps);
 }

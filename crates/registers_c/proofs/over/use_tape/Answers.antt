@@ -4,7 +4,7 @@ use Rattle.register.specs.Sets.{nothing}
 use Rattle.tape.specs.Tapes.{TapeMemory}
 use Rattle.tape.proofs.Places.{stored_at_start}
 use Rattle.registers_c.specs.Steps.{added_by}
-use Rattle.registers_c.proofs.fotsgari_use_tape.Goals as goal
+use Rattle.registers_c.proofs.over.use_tape.Goals as goal
 
 pub returns-clause-tape : goal.returns-clause-tape
 returns-clause-tape c =

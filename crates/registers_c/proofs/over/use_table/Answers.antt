@@ -4,7 +4,7 @@ use Rattle.registers.specs.Tables.{TableMemory}
 use Rattle.registers.proofs.Memory.{stored_first}
 use Rattle.registers_c.specs.Steps.{added_by}
 use Rattle.registers_c.proofs.Making.{adds_at_most}
-use Rattle.registers_c.proofs.fotsgari_use_table.Goals as goal
+use Rattle.registers_c.proofs.over.use_table.Goals as goal
 
 pub returns-clause-table : goal.returns-clause-table
 returns-clause-table c =

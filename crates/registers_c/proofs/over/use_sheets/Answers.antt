@@ -1,4 +1,4 @@
-use Rattle.registers_c.proofs.fotsgari_use_sheets.Goals as goal
+use Rattle.registers_c.proofs.over.use_sheets.Goals as goal
 
 pub returns : goal.returns
 returns c =
