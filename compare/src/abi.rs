@@ -125,12 +125,7 @@ unsafe extern "C" {
 
     fn fotsgari_use_table(table: *mut Record, length: usize, steps: *mut Step, steps_length: usize);
 
-    fn fotsgari_use_sheet_on_tape(
-        tape: *mut u8,
-        length: usize,
-        steps: *mut Step,
-        steps_length: usize,
-    );
+    fn fotsgari_use_sheets(steps: *mut Step, steps_length: usize);
 }
 
 unsafe extern "C" {
@@ -202,12 +197,10 @@ pub fn use_table(table: &mut [Record], steps: &mut [Step]) {
     unsafe { fotsgari_use_table(table.as_mut_ptr(), table.len(), steps.as_mut_ptr(), steps.len()) }
 }
 
-/// Takes steps on a spare sheet over a tape, by the library.
-pub fn use_sheet_on_tape(tape: &mut [u8], steps: &mut [Step]) {
+/// Takes steps on two spare sheets, by the library.
+pub fn use_sheets(steps: &mut [Step]) {
     // SAFETY: as in run_life.
-    unsafe {
-        fotsgari_use_sheet_on_tape(tape.as_mut_ptr(), tape.len(), steps.as_mut_ptr(), steps.len())
-    }
+    unsafe { fotsgari_use_sheets(steps.as_mut_ptr(), steps.len()) }
 }
 
 /// A struct of C that is made of integers alone, so that all bytes are a value of it.

@@ -13,7 +13,7 @@ use crate::twin::steps::{self, ASK, COUNT, ENTER, IS_EMPTY};
 pub enum Over {
     Table,
     Tape,
-    SheetOnTape,
+    Sheets,
 }
 
 /// The memory of a register, of which one of the two is used, and the steps with what came of
@@ -80,8 +80,9 @@ impl Sequence {
                 bytes.copy_from_slice(&record.pack().unwrap_or_default());
             }
         }
-        let over = random.of(&[Over::Table, Over::Tape, Over::SheetOnTape]);
-        let length = random.below(100);
+        let over = random.of(&[Over::Table, Over::Tape, Over::Sheets]);
+        let most = if over == Over::Sheets { 300 } else { 100 };
+        let length = random.below(most);
         let steps = (0..length).map(|_| some_step(&pool, random)).collect();
         Sequence { over, table, tape, steps }
     }
@@ -91,7 +92,7 @@ impl Sequence {
         match self.over {
             Over::Table => abi::use_table(ran.table.values_mut(), &mut ran.steps),
             Over::Tape => abi::use_tape(&mut ran.tape, &mut ran.steps),
-            Over::SheetOnTape => abi::use_sheet_on_tape(&mut ran.tape, &mut ran.steps),
+            Over::Sheets => abi::use_sheets(&mut ran.steps),
         }
         ran
     }
@@ -113,7 +114,7 @@ impl Sequence {
         match self.over {
             Over::Table => steps::use_table::<ByAny>(ran.table.values_mut(), &mut ran.steps),
             Over::Tape => steps::use_tape::<ByAny>(&mut ran.tape, &mut ran.steps),
-            Over::SheetOnTape => steps::use_sheet_on_tape::<ByAny>(&mut ran.tape, &mut ran.steps),
+            Over::Sheets => steps::use_sheets(&mut ran.steps),
         }
         ran
     }

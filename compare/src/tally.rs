@@ -101,7 +101,8 @@ impl Tally {
         self.steps += ran.steps.len() as u64;
         self.memory_bytes += match ran.over {
             Over::Table => 8 * ran.table.words().len() as u64,
-            Over::Tape | Over::SheetOnTape => ran.tape.len() as u64,
+            Over::Tape => ran.tape.len() as u64,
+            Over::Sheets => 0,
         };
         for step in &ran.steps {
             let number = if step.outcome == 0 { 0 } else { step.number };

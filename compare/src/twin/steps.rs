@@ -1,6 +1,6 @@
 //! Steps on registers as C hands them over, from include/fotsgari_registers.h.
 
-use super::register::{Register, Search, SpareSheet, Table, Tape};
+use super::register::{ByAny, Register, Search, SpareSheet, Table, Tape};
 use crate::abi::{Record, Step};
 
 pub const ASK: u8 = 1;
@@ -48,6 +48,8 @@ pub fn use_table<F: Search>(table: &mut [Record], steps: &mut [Step]) {
     take_all(&mut Table::<F>::new(table), steps);
 }
 
-pub fn use_sheet_on_tape<F: Search>(tape: &mut [u8], steps: &mut [Step]) {
-    take_all(&mut SpareSheet::new(Tape::<F>::new(tape)), steps);
+/// On two sheets, one over the other, and no place below.
+pub fn use_sheets(steps: &mut [Step]) {
+    let table = Table::<ByAny>::new(&mut []);
+    take_all(&mut SpareSheet::new(SpareSheet::new(table)), steps);
 }
