@@ -4,7 +4,7 @@
 --   status_state z s n              — the state of a bench with the status z, over a register with the set s and n free places
 --   state_of held free b            — the state of the bench b
 --   memory_with stores m x o        — the memory m of a register, once the statement o, if any, is entered in the state x
---   Does held free memory stores b a r c  — a call that is the action a, given who the replicas are and the state of the bench, answered r on the bench b and left the bench c; refused, it left the register as it was
+--   Does held free memory stores b a r c  — a call that is the action a, given who the replicas are and the state of the bench, answered r on the bench b and left the bench c: a statement that it added is stored in the register's memory; refused, it left the register as it was
 --   Opened held free u r b          — the bench b is u, newly opened over the register r
 use Rattle.std.specs.Prelude.{◌≡◌, ℕ, false, is_ok, Some, None, Option}
 use Rattle.refusal.specs.Grounds.{Answer}

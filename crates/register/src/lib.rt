@@ -38,8 +38,8 @@ pub trait Register {
         ensures { Emptiness (held self.now) result };
 
     /// Enters `r`. A record that breaks the layout is refused. A member is granted. Another
-    /// statement is added and uses one free place, or, if there is none, it is refused. Where
-    /// nothing is added, the whole register is left as it was, with the memory lent to it.
+    /// statement is added, uses one free place and is stored in the memory, or, if there is none,
+    /// it is refused. Where nothing is added, the whole register is left as it was.
     fn enter(&mut self, r: &Record) -> Result<(), Refusal>
         ensures entered { Entered (held self.old) (free self.old) r.now result (held self.new) (free self.new) }
         ensures memory { memory self.new ≡ memory_after stores (memory self.old) (held self.old) (free self.old) r.now }
