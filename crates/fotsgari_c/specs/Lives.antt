@@ -6,11 +6,11 @@
 --   Ran a u V t t' os z                    — the same, with the calls a
 --   NothingWritten t os z t' os' z'        — a tape, outcomes and a status that held t, os and z hold t', os' and z' now, which are the same
 --   Turns u V b t os z r t' os' z'         — running the turns b on a bench u with the service V answered r, and what held t, os and z holds t', os' and z' now: the life ran, or its open was refused
---   Fails a e t os z t' os' z'             — no life ran, since a is the fault e, or since e is a lack of memory, and nothing was written
+--   Fails u cs rs e t os z t' os' z'       — no life ran, since what cs and rs ask for is the fault e, or since e is a lack of memory, and nothing was written
 --   Comes u V cs rs t os z r t' os' z'     — running the life that cs and rs ask for answered r: it ran, or it failed with a fault
 --   Answers u V cs rs t os z n t' os' z'   — the same, where n is 0 if it ran, else the number of the fault, which is never 0
 --   rating, allotment                      — the services
-use Rattle.std.specs.Prelude.{◌≡◌, ℕ, true, cond, ◌==◌, ◌⊎◌, List, [], length, map, Ok, Err, Result}
+use Rattle.std.specs.Prelude.{◌≡◌, ◌≢◌, ℕ, true, cond, ◌==◌, ◌⊎◌, List, [], length, map, Ok, Err, Result}
 use Rattle.refusal.specs.Grounds.{Answer}
 use Rattle.record.specs.declared.Record.{Record}
 use Rattle.record.specs.Tapes.{places}
@@ -81,23 +81,25 @@ Turns u V b t os z (Ok _) t' os' z' = Told u V b t t' os' z'
 Turns u V b t os z (Err e) t' os' z' = (open_grounds u true ≡ Err e) × NothingWritten t os z t' os' z'
 
 pub record Fails
-    (a : Result (List rules.Call) Fault) (e : Fault) (t : List ℕ) (os : List Outcome) (z : Status) (t' : List ℕ)
+    (u : Setup) (cs : List Call) (rs : List Record) (e : Fault) (t : List ℕ) (os : List Outcome) (z : Status) (t' : List ℕ)
     (os' : List Outcome) (z' : Status)
     : Type 0 where
-  pub is : IsFault a e
+  pub is : IsFault (asked u cs rs os) e
+  -- memory is asked for only where there are as many outcomes as calls
+  pub counted : length os ≢ length cs → e ≡ fault.Outcomes
   pub nothing_written : NothingWritten t os z t' os' z'
 
 abbrev pub Comes :
     Setup → Service → List Call → List Record → List ℕ → List Outcome → Status → Result (Unit {0}) Fault → List ℕ
     → List Outcome → Status → Type 0
 Comes u V cs rs t os z (Ok _) t' os' z' = Ran (asked u cs rs os) u V t t' os' z'
-Comes u V cs rs t os z (Err e) t' os' z' = Fails (asked u cs rs os) e t os z t' os' z'
+Comes u V cs rs t os z (Err e) t' os' z' = Fails u cs rs e t os z t' os' z'
 
 abbrev pub Answers :
     Setup → Service → List Call → List Record → List ℕ → List Outcome → Status → ℕ → List ℕ → List Outcome → Status → Type 0
 Answers u V cs rs t os z n t' os' z' =
     ((n ≡ 0) × Ran (asked u cs rs os) u V t t' os' z')
-    ⊎ ((e : Fault) × ((n ≡ fault_number e) × Fails (asked u cs rs os) e t os z t' os' z'))
+    ⊎ ((e : Fault) × ((n ≡ fault_number e) × Fails u cs rs e t os z t' os' z'))
 
 abbrev pub rating : Service
 rating = service_of (λ _. []) rating_next rating_answer []
