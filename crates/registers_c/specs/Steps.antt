@@ -3,6 +3,8 @@
 --   entered_value a       — its value: of a refusal the number of the ground
 --   outcome s n t         — the outcome of the step t, where it does not look whether the register is empty
 --   value s n t           — its value
+--   TellsEmptiness s o v  — o and v are the outcome and the value of a step that looks whether the register is empty
+--   TellsOther s n t o v  — o and v are those of the step t, where it does not
 --   Came s n t o v        — the step t came to the outcome o and the value v
 --   held_then s n t       — the set after the step t
 --   free_then s n t       — the number of free places after it
@@ -10,7 +12,7 @@
 --   added_by s n ts       — the statements that the steps ts, made in turn, add, in order
 --   made t o v            — the step t with the outcome o and the value v
 --   Made s n t t'         — the step t was made, and is t' with what came of it
---   Uses s n ts us s' n' — the steps ts were made in turn, and are us with what came of them; s' and n' are the set and the number of free places then
+--   Uses s n ts us s' n'  — the steps ts were made in turn, and are us with what came of them; s' and n' are the set and the number of free places then
 --   UsesEmpty n ts us     — the same, from an empty register with n free places
 use Rattle.std.specs.Prelude.{◌≡◌, ℕ, Bool, cond, MatchBool, List, [], ◌∷◌, ◌++◌, Ok, Err, ◌==◌}
 use Rattle.refusal.specs.Grounds.{Answer, ground_number}

@@ -1,8 +1,8 @@
 -- The answers of 64 bits.
---   answer_number why  — the answer where there is no figure, for the reason why
---   unanswered_text why — how the reason why is printed
---   answer_of r        — the answer for the result r: its figure, or the number of the reason why there is none
---   outcome_of n       — the figure that the answer n is, or the reason why it is none
+--   answer_number why    — the answer where there is no figure, for the reason why
+--   unanswered_text why  — how the reason why is printed
+--   answer_of r          — the answer for the result r: its figure, or the number of the reason why there is none
+--   outcome_of n         — the figure that the answer n is, or the reason why it is none
 use Rattle.std.specs.Prelude.{ℕ, cond, ◌==◌, List, Result, Ok, Err, codes}
 use Rattle.service.specs.Operations.{out_of_range, malformed}
 use Rattle.service.specs.declared.answer.Unanswered.{Unanswered}
