@@ -1,6 +1,6 @@
 //! What differs between what the library left of a life and what the twin left.
 
-use crate::abi::{Call, Memory, Outcome, Plain, Record, Replica, Status, YES};
+use crate::abi::{Call, Memory, Outcome, Plain, Record, Status, YES};
 use crate::generate::number;
 use crate::lives::{Life, Ran};
 use crate::twin::record::PLACE;
@@ -88,15 +88,24 @@ fn compare_status(ours: &Status, twin: &Status, found: &mut Vec<String>) {
     if ours.stamped != twin.stamped {
         found.push(format!("stamped {}, by the twin {}", ours.stamped, twin.stamped));
     }
-    for (slot, (our, other)) in ours.operations.iter().zip(&twin.operations).enumerate() {
+    compare_each(&ours.operations, &twin.operations, found, |slot, our, other| {
+        format!("operation {slot} is {our:#x}, by the twin {other:#x}")
+    });
+    compare_each(&ours.replicas, &twin.replicas, found, |replica, our, other| {
+        format!("replica {replica}: {our:?}, by the twin {other:?}")
+    });
+}
+
+/// Compares values one by one; a difference in the words that are given for it.
+pub fn compare_each<T: PartialEq>(
+    ours: &[T],
+    others: &[T],
+    found: &mut Vec<String>,
+    words: impl Fn(usize, &T, &T) -> String,
+) {
+    for (place, (our, other)) in ours.iter().zip(others).enumerate() {
         if our != other {
-            found.push(format!("operation {slot} is {our:#x}, by the twin {other:#x}"));
-        }
-    }
-    let pairs: Vec<(&Replica, &Replica)> = ours.replicas.iter().zip(&twin.replicas).collect();
-    for (replica, (our, other)) in pairs.into_iter().enumerate() {
-        if our != other {
-            found.push(format!("replica {replica}: {our:?}, by the twin {other:?}"));
+            found.push(words(place, our, other));
         }
     }
 }
@@ -106,20 +115,14 @@ pub fn compare_bytes(name: &str, ours: &[u8], twin: &[u8], found: &mut Vec<Strin
     if ours == twin {
         return;
     }
-    for (place, (our, other)) in ours.iter().zip(twin).enumerate() {
-        if our != other {
-            found.push(format!("{name}: byte {place} is {our:#x} and not {other:#x}"));
-        }
-    }
+    compare_each(ours, twin, found, |place, our, other| {
+        format!("{name}: byte {place} is {our:#x} and not {other:#x}")
+    });
 }
 
 /// Compares 8 bytes at a time.
 pub fn compare_words(name: &str, ours: &[u64], twin: &[u64], found: &mut Vec<String>) {
-    for (place, (our, other)) in ours.iter().zip(twin).enumerate() {
-        if our != other {
-            found.push(format!(
-                "{name}: of the words that are not written, {place} is {our:#x} and not {other:#x}"
-            ));
-        }
-    }
+    compare_each(ours, twin, found, |place, our, other| {
+        format!("{name}: of the words that are not written, {place} is {our:#x} and not {other:#x}")
+    });
 }

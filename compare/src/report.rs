@@ -35,15 +35,7 @@ const ANSWERS: [u8; 7] = [0, 3, 4, 101, 102, 103, 104];
 
 /// Prints the tables of the lives; whether everything was reached.
 pub fn print_lives(tally: &Tally) -> bool {
-    println!("\ncall     granted      yes       no  refused   refused on ground: how often");
-    for (number, name) in NAMES.iter().enumerate().skip(1) {
-        let [_, granted, yes, no, refused] = tally.kinds[number];
-        print!("{name:8} {granted:7}  {yes:7}  {no:7}  {refused:7}  ");
-        for ground in MET[number] {
-            print!(" {ground}: {}", tally.grounds[number][*ground]);
-        }
-        println!();
-    }
+    print_calls(tally);
     print_grounds(tally);
     println!("\nof the calls that were not refused");
     for (what, times) in &tally.reached {
@@ -63,6 +55,19 @@ pub fn print_lives(tally: &Tally) -> bool {
     is_reached(tally)
 }
 
+fn print_calls(tally: &Tally) {
+    println!("\ncall     granted      yes       no  refused   refused on ground: how often");
+    for (number, name) in NAMES.iter().enumerate().skip(1) {
+        let [_, granted, yes, no, refused] = tally.kinds[number];
+        let grounds: Vec<String> = MET[number]
+            .iter()
+            .map(|&ground| format!(" {ground}: {}", tally.grounds[number][ground]))
+            .collect();
+        let grounds = grounds.concat();
+        println!("{name:8} {granted:7}  {yes:7}  {no:7}  {refused:7}  {grounds}");
+    }
+}
+
 fn print_grounds(tally: &Tally) {
     println!("\nground   in all   at place 0, 1, 2 and so on");
     for ground in 1..GROUNDS {
@@ -71,41 +76,48 @@ fn print_grounds(tally: &Tally) {
             3 | 4 => tally.answers.get(&(ground as u8)).copied().unwrap_or(0),
             _ => in_all,
         };
-        print!("{ground:6} {in_all:8}  ");
         let places = if PLACED.contains(&ground) { LAST_PLACE } else { 0 };
-        for place in &tally.places[ground][..=places] {
-            print!(" {place}");
-        }
-        println!();
+        let places: Vec<String> =
+            tally.places[ground][..=places].iter().map(|times| format!(" {times}")).collect();
+        println!("{ground:6} {in_all:8}  {}", places.concat());
     }
 }
 
-/// Prints what was not reached often enough: once in 100,000 calls each.
+/// How often a call was not refused, and was on each ground that it can meet.
+fn times_of_call(tally: &Tally, number: usize) -> Vec<(u64, String)> {
+    let [_, granted, yes, no, _] = tally.kinds[number];
+    let name = NAMES[number];
+    let mut times = vec![(granted.max(yes.min(no)), format!("{name} granted"))];
+    times.extend(MET[number].iter().map(|&ground| {
+        (tally.grounds[number][ground], format!("{name} refused on ground {ground}"))
+    }));
+    times
+}
+
+/// All that has to be reached, and how often it was.
+fn times_of_all(tally: &Tally) -> Vec<(u64, String)> {
+    let mut all: Vec<(u64, String)> =
+        (1..CALLS).flat_map(|number| times_of_call(tally, number)).collect();
+    all.extend(PLACED.iter().flat_map(|&ground| {
+        (0..=LAST_PLACE).map(move |place| {
+            (tally.places[ground][place], format!("ground {ground} at place {place}"))
+        })
+    }));
+    all.extend(tally.reached.iter().map(|(what, &times)| (times, (*what).to_string())));
+    all.extend(ANSWERS.iter().map(|answer| {
+        (tally.answers.get(answer).copied().unwrap_or(0), format!("answer {answer}"))
+    }));
+    all
+}
+
+/// Prints what was not reached often enough, which is once in 100,000 calls each; whether
+/// everything was.
 fn is_reached(tally: &Tally) -> bool {
     let enough = tally.calls / 100_000;
-    let mut rare = Vec::new();
-    for (number, name) in NAMES.iter().enumerate().skip(1) {
-        let [_, granted, yes, no, _] = tally.kinds[number];
-        if granted < enough && yes.min(no) < enough {
-            rare.push(format!("{name} granted"));
-        }
-        for ground in MET[number].iter().filter(|&&ground| tally.grounds[number][ground] < enough) {
-            rare.push(format!("{name} refused on ground {ground}"));
-        }
-    }
-    for ground in PLACED {
-        for place in (0..=LAST_PLACE).filter(|&place| tally.places[ground][place] < enough) {
-            rare.push(format!("ground {ground} at place {place}"));
-        }
-    }
-    for (what, _) in tally.reached.iter().filter(|(_, times)| **times < enough) {
-        rare.push((*what).to_string());
-    }
-    for answer in ANSWERS.iter().filter(|a| tally.answers.get(a).copied().unwrap_or(0) < enough) {
-        rare.push(format!("answer {answer}"));
-    }
-    for name in &rare {
-        println!("REACHED TOO SELDOM (under {enough} times): {name}");
+    let mut rare = times_of_all(tally);
+    rare.retain(|&(times, _)| times < enough);
+    for (_, what) in &rare {
+        println!("REACHED TOO SELDOM (under {enough} times): {what}");
     }
     rare.is_empty()
 }

@@ -1,7 +1,7 @@
 //! Random sequences of steps on registers, and what differs after them.
 
 use crate::abi::{self, Memory, Record, Step};
-use crate::differ::{compare_bytes, compare_words};
+use crate::differ::{compare_bytes, compare_each, compare_words};
 use crate::generate::{any_record, break_layout};
 use crate::random::Random;
 use crate::twin::record::PLACE;
@@ -123,18 +123,13 @@ impl Sequence {
 /// Every difference, each in words: outcomes, what was handed over in the steps, and memory.
 pub fn differences(before: &Sequence, ours: &Sequence, twin: &Sequence) -> Vec<String> {
     let mut found = Vec::new();
-    for (place, (our, other)) in ours.steps.iter().zip(&twin.steps).enumerate() {
-        if our != other {
-            found.push(format!("step {place}: {our:?}, by the twin {other:?}"));
-        }
-    }
+    compare_each(&ours.steps, &twin.steps, &mut found, |place, our, other| {
+        format!("step {place}: {our:?}, by the twin {other:?}")
+    });
     compare_bytes("tape", &ours.tape, &twin.tape, &mut found);
-    let (table, other) = (ours.table.values(), twin.table.values());
-    for (place, (our, other)) in table.iter().zip(other).enumerate() {
-        if our != other {
-            found.push(format!("place {place}: {our:?}, by the twin {other:?}"));
-        }
-    }
+    compare_each(ours.table.values(), twin.table.values(), &mut found, |place, our, other| {
+        format!("place {place}: {our:?}, by the twin {other:?}")
+    });
     // Places that no statement was written to are as they were, also the bytes between fields.
     let unused = twin.entered() * size_of::<Record>() / 8;
     let (words, held) = (ours.table.words(), before.table.words());

@@ -4,7 +4,7 @@
 use super::record::fits;
 use super::register::Register;
 use super::service::Service;
-use super::{Refusal, refused, unless};
+use super::{Refusal, refuse_if, refused};
 use crate::abi::{REPLICAS, Record, SLOTS};
 
 pub type Granted = Result<(), Refusal>;
@@ -48,14 +48,14 @@ pub struct Bench<R, S> {
 
 /// The grounds of open, but for that of the register.
 pub fn check_setup(f: u64, foreign: u64) -> Granted {
-    unless(!(1..=5).contains(&f), 3)?;
-    unless(foreign >> (3 * f + 1) != 0 || u64::from(foreign.count_ones()) > f, 4)
+    refuse_if(!(1..=5).contains(&f), 3)?;
+    refuse_if(foreign >> (3 * f + 1) != 0 || u64::from(foreign.count_ones()) > f, 4)
 }
 
 impl<R: Register, S: Service> Bench<R, S> {
     pub fn open(f: u64, foreign: u64, register: R, service: S) -> Result<Self, Refusal> {
         check_setup(f, foreign)?;
-        unless(!register.is_empty(), 5)?;
+        refuse_if(!register.is_empty(), 5)?;
         Ok(Bench {
             n: (3 * f + 1) as u8,
             q: (2 * f + 1) as usize,
@@ -85,14 +85,14 @@ impl<R: Register, S: Service> Bench<R, S> {
 
     /// Grounds 6 and 7 of a call that names a replica.
     pub(super) fn honest(&self, replica: u64) -> Result<u8, Refusal> {
-        unless(replica >= self.n.into(), 6)?;
-        unless(self.foreign >> replica & 1 == 1, 7)?;
+        refuse_if(replica >= self.n.into(), 6)?;
+        refuse_if(self.foreign >> replica & 1 == 1, 7)?;
         Ok(replica as u8)
     }
 
     /// Ground 8 where a slot is not stamped.
     pub(super) fn stamped(&self, slot: u64) -> Result<u8, Refusal> {
-        unless(slot >= self.operations.len() as u64, 8)?;
+        refuse_if(slot >= self.operations.len() as u64, 8)?;
         Ok(slot as u8)
     }
 
@@ -110,7 +110,7 @@ impl<R: Register, S: Service> Bench<R, S> {
     }
 
     pub fn stamp(&mut self, operation: u64) -> Granted {
-        unless(self.operations.len() == SLOTS, 17)?;
+        refuse_if(self.operations.len() == SLOTS, 17)?;
         self.operations.push(operation);
         Ok(())
     }
@@ -130,9 +130,9 @@ impl<R: Register, S: Service> Bench<R, S> {
         let signer = self.honest(replica)?;
         let slot = self.stamped(slot)?;
         let Replica { view, length, word, .. } = *self.replica(signer);
-        unless(!self.replica(signer).at_work(), 9)?;
-        unless(slot != length, 11)?;
-        unless(self.said(Record::drop(view, slot), signer), 12)?;
+        refuse_if(!self.replica(signer).at_work(), 9)?;
+        refuse_if(slot != length, 11)?;
+        refuse_if(self.said(Record::drop(view, slot), signer), 12)?;
         let answer = self.answer_of(word, slot);
         self.say(Record::reply(view, slot, word, answer), signer)?;
         self.replica_mut(signer).length += 1;
@@ -144,19 +144,19 @@ impl<R: Register, S: Service> Bench<R, S> {
         let signer = self.honest(replica)?;
         let state = *self.replica(signer);
         self.stamped(state.length.into())?;
-        unless(!state.at_work(), 9)?;
+        refuse_if(!state.at_work(), 9)?;
         Ok((signer, state))
     }
 
     pub fn find(&mut self, replica: u64) -> Granted {
         let (signer, Replica { view, length, .. }) = self.gap(replica)?;
-        unless(signer != self.leader(view), 10)?;
+        refuse_if(signer != self.leader(view), 10)?;
         self.say(Record::find(view, length), signer)
     }
 
     pub fn drop(&mut self, replica: u64) -> Granted {
         let (signer, Replica { view, length, .. }) = self.gap(replica)?;
-        unless(!self.said(Record::find(view, length), self.leader(view)), 15)?;
+        refuse_if(!self.said(Record::find(view, length), self.leader(view)), 15)?;
         self.say(Record::drop(view, length), signer)
     }
 
@@ -164,8 +164,8 @@ impl<R: Register, S: Service> Bench<R, S> {
         let signer = self.honest(replica)?;
         let slot = self.stamped(slot)?;
         let state = *self.replica(signer);
-        unless(!state.at_work(), 9)?;
-        unless(slot >= state.length || state.has_no_op(slot), 11)?;
+        refuse_if(!state.at_work(), 9)?;
+        refuse_if(slot >= state.length || state.has_no_op(slot), 11)?;
         let below = state.word & ((1 << slot) - 1);
         let answer = self.answer_of(below, slot);
         self.say(Record::reply(state.view, slot, below, answer), signer)
@@ -173,10 +173,10 @@ impl<R: Register, S: Service> Bench<R, S> {
 
     pub fn leave(&mut self, replica: u64, target: u64) -> Granted {
         let signer = self.honest(replica)?;
-        unless(target > 63, 8)?;
+        refuse_if(target > 63, 8)?;
         let target = target as u8;
         let state = *self.replica(signer);
-        unless(target <= state.target, 11)?;
+        refuse_if(target <= state.target, 11)?;
         let told = Record::view_change(target, state.view, state.reach(), state.sealed);
         self.say(told, signer)?;
         let state = self.replica_mut(signer);
@@ -186,18 +186,18 @@ impl<R: Register, S: Service> Bench<R, S> {
     }
 
     pub fn forge(&mut self, record: &Record) -> Granted {
-        unless(!record.keeps_layout(), 2)?;
-        unless(record.signer >= self.n, 6)?;
-        unless(!self.is_foreign(record.signer), 7)?;
+        refuse_if(!record.keeps_layout(), 2)?;
+        refuse_if(record.signer >= self.n, 6)?;
+        refuse_if(!self.is_foreign(record.signer), 7)?;
         self.register.enter(record)
     }
 
     pub fn enter(&mut self, replica: u64, length: u64, word: u64, view: u64) -> Granted {
         let signer = self.honest(replica)?;
-        unless(view > 63 || length > 64 || !fits(word, length), 8)?;
+        refuse_if(view > 63 || length > 64 || !fits(word, length), 8)?;
         let (view, length) = (view as u8, length as u8);
         let state = self.replica(signer);
-        unless(view <= state.view || view < state.target, 11)?;
+        refuse_if(view <= state.view || view < state.target, 11)?;
         if !self.agreed(Record::entry(view, length, word)) {
             return refused(15);
         }

@@ -4,7 +4,7 @@ use super::bench::Bench;
 use super::record::fits;
 use super::register::Register;
 use super::service::Service;
-use super::{Refusal, unless};
+use super::{Refusal, refuse_if};
 use crate::abi::Record;
 
 impl<R: Register, S: Service> Bench<R, S> {
@@ -16,16 +16,16 @@ impl<R: Register, S: Service> Bench<R, S> {
         word: u64,
         result: u64,
     ) -> Result<bool, Refusal> {
-        unless(buffer.len() < 16, 1)?;
-        unless(view > 63, 8)?;
+        refuse_if(buffer.len() < 16, 1)?;
+        refuse_if(view > 63, 8)?;
         let slot = self.stamped(slot)?;
-        unless(!fits(word, slot.into()), 8)?;
+        refuse_if(!fits(word, slot.into()), 8)?;
         Ok(self.certify(buffer, Record::reply(view as u8, slot, word, result)))
     }
 
     pub fn no_op(&self, buffer: &mut [u8], view: u64, slot: u64) -> Result<bool, Refusal> {
-        unless(buffer.len() < 16, 1)?;
-        unless(view > 63, 8)?;
+        refuse_if(buffer.len() < 16, 1)?;
+        refuse_if(view > 63, 8)?;
         let slot = self.stamped(slot)?;
         Ok(self.certify(buffer, Record::commit(view as u8, slot, true)))
     }

@@ -29,7 +29,7 @@ pub fn refused_at<T>(ground: u8, place: usize) -> Result<T, Refusal> {
     Err(Refusal { ground, place: place as u64 })
 }
 
-/// Grants where a ground is not met.
-pub fn unless(met: bool, ground: u8) -> Result<(), Refusal> {
+/// A refusal where a ground is met, else a grant.
+pub fn refuse_if(met: bool, ground: u8) -> Result<(), Refusal> {
     if met { refused(ground) } else { Ok(()) }
 }

@@ -4,7 +4,7 @@ use super::bench::{Bench, Granted};
 use super::record::{VIEW_CHANGE, fits};
 use super::register::Register;
 use super::service::Service;
-use super::{Refusal, refused, refused_at, unless};
+use super::{Refusal, refuse_if, refused, refused_at};
 use crate::abi::Record;
 
 /// A length and a word.
@@ -39,7 +39,7 @@ pub fn check_layout(picks: &[Record]) -> Granted {
 
 /// Ground 8 of lead and start.
 pub fn base_line(length: u64, word: u64) -> Result<Line, Refusal> {
-    unless(length > 64 || !fits(word, length), 8)?;
+    refuse_if(length > 64 || !fits(word, length), 8)?;
     Ok(Line { length: length as u8, word })
 }
 

@@ -2,9 +2,9 @@
 
 use super::bench::{Bench, Granted};
 use super::picks::{base_line, check_layout};
+use super::refuse_if;
 use super::register::Register;
 use super::service::Service;
-use super::unless;
 use crate::abi::Record;
 
 impl<R: Register, S: Service> Bench<R, S> {
@@ -20,8 +20,8 @@ impl<R: Register, S: Service> Bench<R, S> {
         let base = base_line(base_length, base_word)?;
         let state = self.replica(signer);
         let target = state.target;
-        unless(state.at_work(), 9)?;
-        unless(signer != self.leader(target), 10)?;
+        refuse_if(state.at_work(), 9)?;
+        refuse_if(signer != self.leader(target), 10)?;
         let merge = self.check_picks(target, picks, base)?;
         self.say(Record::view_start(target, merge.length, merge.word), signer)
     }
@@ -38,11 +38,11 @@ impl<R: Register, S: Service> Bench<R, S> {
         let base = base_line(base_length, base_word)?;
         let state = self.replica(signer);
         let target = state.target;
-        unless(state.at_work(), 9)?;
-        unless(state.mark, 12)?;
+        refuse_if(state.at_work(), 9)?;
+        refuse_if(state.mark, 12)?;
         let merge = self.check_picks(target, picks, base)?;
         let led = Record::view_start(target, merge.length, merge.word);
-        unless(!self.said(led, self.leader(target)), 16)?;
+        refuse_if(!self.said(led, self.leader(target)), 16)?;
         self.say(Record::entry(target, merge.length, merge.word), signer)?;
         self.replica_mut(signer).mark = true;
         Ok(())
