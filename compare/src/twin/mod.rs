@@ -1,4 +1,4 @@
-//! An implementation of docs/*.md and include/fotsgari.h, written from these alone.
+//! An implementation of docs/*.md and include/fotsgari.h, which shares nothing with the libraries.
 
 pub mod bench;
 pub mod calls;
