@@ -1,14 +1,14 @@
 -- What a register means, a set of statements, a number of free places and a memory, and what entering one does.
---   Set                    — a set of records, as a test
---   nothing                — the empty set
---   Emptiness s b          — b tells whether s is empty: it is true if s has no member, and false if it has one
---   added s r              — s with r in it
---   adds s n r             — entering r adds it: r keeps the layout, is no member, and of n free places there is one
---   entering s n r         — what entering r answers
---   held_after s n r       — the set afterwards
---   free_after s n r       — the number of free places afterwards
+--   Set                          — a set of records, as a test
+--   nothing                      — the empty set
+--   Emptiness s b                — b tells whether s is empty: it is true if s has no member, and false if it has one
+--   added s r                    — s with r in it
+--   adds s n r                   — entering r adds it: r keeps the layout, is no member, and of n free places there is one
+--   entering s n r               — what entering r answers
+--   held_after s n r             — the set afterwards
+--   free_after s n r             — the number of free places afterwards
 --   memory_after stores m s n r  — the memory afterwards: where r is added, what stores makes of the memory m, else m
---   Entered s n r a s' n'  — r was entered: that set and number became s' and n', and the answer was a
+--   Entered s n r a s' n'        — r was entered: that set and number became s' and n', and the answer was a
 use Rattle.std.specs.Prelude.{◌≡◌, ℕ, ◌-◌, Bool, true, false, cond, not, ◌&&◌, ◌||◌, Ok, Err, Result, ◌==◌}
 use Rattle.refusal.specs.Grounds.{refused}
 use Rattle.refusal.specs.declared.Ground.TheVariants.{Layout, RegisterFull}

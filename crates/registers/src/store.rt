@@ -41,8 +41,8 @@ fn look_alike(a: &Record, b: &Record) -> bool
     (a.signer == b.signer) & (a.slot == b.slot) & (a.result == b.result)
 }
 
-// Whether `r` is a statement, and one of the records. With `==` alone a table's ask takes up to
-// twice as long.
+// Whether `r` is a statement, and one of the records. With `==` alone a table's ask takes two to
+// three times as long.
 pub(crate) fn holds(records: &[Record], r: &Record) -> bool
     ensures { result ≡ stored is_there records.now r.now }
 {

@@ -1,4 +1,5 @@
-//! The registers that steps are made on.
+//! The registers that steps are made on. Each export calls one of these and promises what it
+//! promises, so what refuses an edit of an export is the export itself.
 ghost use Rattle.std.specs.Prelude.{◌≡◌, length};
 ghost use Rattle.record.specs.Tapes.{places};
 ghost use Rattle.register.specs.Sets.{nothing};
