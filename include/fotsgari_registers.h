@@ -16,10 +16,10 @@ extern "C" {
 
 /* The numbers of the steps. */
 enum fotsgari_step_number {
-    FOTSGARI_ASK = 1,      /* whether the register holds the statement */
-    FOTSGARI_IS_EMPTY = 2, /* whether it holds none */
-    FOTSGARI_ENTER = 3,    /* enters the statement */
-    FOTSGARI_COUNT = 4     /* how many replicas said the statement, each under its own number */
+    FOTSGARI_STEP_ASK = 1,      /* whether the register holds the statement */
+    FOTSGARI_STEP_IS_EMPTY = 2, /* whether it holds none */
+    FOTSGARI_STEP_ENTER = 3,    /* enters the statement */
+    FOTSGARI_STEP_COUNT = 4     /* how many replicas said the statement, each under its own number */
 };
 
 enum fotsgari_step_outcome {
