@@ -22,7 +22,7 @@ pub struct Bench<'a, R, S> {
 }
 
 impl<'a, R: Register, S: Service> Bench<'a, R, S> {
-    // A bench on which nothing is stamped, and every replica is still.
+    // A bench on which nothing is stamped, and every replica is as at opening.
     fn new(setup: Setup, register: &'a mut R, service: &'a mut S) -> Bench<'a, R, S>
         ensures opened { Opened R.held R.free (setup_of setup) register.old result }
         ensures service { result.service.now ≡ service.old }
@@ -40,7 +40,7 @@ impl<'a, R: Register, S: Service> Bench<'a, R, S> {
         }
     }
 
-    /// Opens a bench over an empty register. Nothing is stamped, and every replica is still. It is
+    /// Opens a bench over an empty register. Nothing is stamped, and every replica is as at opening. It is
     /// refused on the grounds that `Setup::check` tries, which only looks at the register.
     pub fn open(
         f: u64,

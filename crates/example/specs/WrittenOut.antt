@@ -28,7 +28,7 @@ use Rattle.protocol.specs.State.{replica_at}
 use Rattle.protocol.specs.Open.{open_grounds}
 use Rattle.protocol.specs.Call.{Call, Stamp, Deliver, Find, Drop, Decide, Prepare, Commit, Settle, Reply, Leave, Forge, Lead, Start, Enter, AskAnswer, AskNoOp, Outcome, Granted, Yes, No, Refused}
 use Rattle.protocol.specs.Life.{Life, state_at, outcomes_of}
-use Rattle.protocol.specs.Law.{Answered, Skipped}
+use Rattle.protocol.specs.Law.{AnswerCertified, NoOpCertified}
 
 abbrev pub totals : Service
 totals xs op = sum xs + op
@@ -140,6 +140,6 @@ LinesHold =
     × (replica_at (state_at example 59) 2 ≡ entered 1 2 2)
 
 pub record Certifies (a b : ℕ) : Type 0 where
-  pub answered : Answered example 68 0 0 0 a
-  pub skipped : Skipped example 68 0 1
-  pub answered_past : Answered example 68 1 2 2 b
+  pub answered : AnswerCertified example 68 0 0 0 a
+  pub skipped : NoOpCertified example 68 0 1
+  pub answered_past : AnswerCertified example 68 1 2 2 b

@@ -1,5 +1,5 @@
 -- A life while it runs: the first calls are made, and the others are still to be made.
-use Rattle.std.proofs.Common.{◌≡◌, ℕ, zero, suc, ◌+◌, ◌<◌, true, false, cond, List, [], ◌∷◌, ◌++◌, length, get_or, set, take, Some, None, Option, slice_get, option_map, sym, refl, ap, ◌∙◌, subst, inl, inr, arith}
+use Rattle.std.proofs.Common.{◌≡◌, ℕ, zero, suc, ◌+◌, ◌<◌, List, [], ◌∷◌, ◌++◌, length, get_or, set, take, Some, slice_get, option_map, sym, refl, ap, ◌∙◌, subst, inl, inr, arith}
 use Rattle.std.proofs.Math.Numerals.{suc-eq-add-one}
 use Rattle.std.proofs.Math.Seq.{map-set_same, take-length}
 use Rattle.std.specs.List.{fold}
@@ -9,13 +9,12 @@ use Rattle.std.proofs.lemmas.List.Sums.{fold-append}
 use Rattle.std.proofs.lemmas.Option.{slice_get-get_or, slice_get-map}
 use Rattle.service.specs.Operations.{after}
 use Rattle.record.specs.declared.Record.{Record}
-use Rattle.register.specs.Sets.{adds}
 use Rattle.protocol.specs.Setup.{Setup}
 use Rattle.protocol.specs.Service.{Service}
 use Rattle.protocol.specs.State.{State, added_to}
 use Rattle.protocol.specs.Call as rules
 use Rattle.protocol.specs.Life.{run, outcomes, added_by}
-use Rattle.bench.specs.States.{service_of, memory_with}
+use Rattle.bench.specs.States.{service_of}
 use Rattle.bench.specs.declared.open.Bench.{Bench}
 use Rattle.life.specs.Calls.{call_of, told}
 use Rattle.life.specs.Making.{Backs, Makes, Keeps, Made, Underway}
@@ -87,9 +86,9 @@ module _ {A : Type 0} (fresh : A → A) (next : A → ℕ → A) (answer : A →
 
     pub stores_alike :
         {M : Type 0} (stores : M → Record → M) (m m' : M)
-        → m' ≡ memory_with stores m x (rules.meaning v (service_of fresh next answer t) x c).entry
-        → m' ≡ memory_with stores m x (rules.meaning u (service_of fresh next answer s) x c).entry
-    stores_alike stores m m' = alike u v s t e k (λ w V. m' ≡ memory_with stores m x (rules.meaning w V x c).entry)
+        → m' ≡ fold stores m (added_to x (rules.meaning v (service_of fresh next answer t) x c).entry)
+        → m' ≡ fold stores m (added_to x (rules.meaning u (service_of fresh next answer s) x c).entry)
+    stores_alike stores m m' = alike u v s t e k (λ w V. m' ≡ fold stores m (added_to x (rules.meaning w V x c).entry))
 
 pub keeps_on :
     {R S A : Type 0} (kind_of : S → A) (a b c : Bench R S) → Keeps kind_of a b → Keeps kind_of b c → Keeps kind_of a c
@@ -145,15 +144,10 @@ module _ (u : Setup) (V : Service) (x : State) (cs : List rules.Call) where
   -- ---- the register's memory
 
   module _ {M : Type 0} (stores : M → Record → M) where
-    stored_to : (m : M) (y : State) (o : Option Record) → memory_with stores m y o ≡ fold stores m (added_to y o)
-    stored_to m y None = refl
-    stored_to m y (Some r) =
-        elim (adds y.held y.free r) as (λ b. cond b (stores m r) m ≡ fold stores m (cond b (r ∷ []) [])) [ true ↦ refl | false ↦ refl ]
-
     pub stored_further :
         (m m' m'' : M) (k : ℕ) (ts : List Turn) (d : Turn) (y : State) → Underway u V x cs k ts y → k < length ts
         → m' ≡ fold stores m (added_by u V x (take k cs))
-        → m'' ≡ memory_with stores m' y (rules.meaning u V y (call_of (get_or ts k d).call)).entry
+        → m'' ≡ fold stores m' (added_to y (rules.meaning u V y (call_of (get_or ts k d).call)).entry)
         → m'' ≡ fold stores m (added_by u V x (take (k + 1) cs))
     stored_further m m' m'' k ts d y U h before now =
         let c = call_of (get_or ts k d).call in
@@ -161,7 +155,6 @@ module _ (u : Setup) (V : Service) (x : State) (cs : List rules.Call) where
         let rs = added_by u V x (take k cs) in
         let new = added_to w (rules.meaning u V w c).entry in
         now
-        ∙ stored_to m' y (rules.meaning u V y c).entry
         ∙ ap (λ z. fold stores m' (added_to z (rules.meaning u V z c).entry)) U.state
         ∙ ap (λ z. fold stores z new) before
         ∙ sym (fold-append stores m rs new)

@@ -2,7 +2,9 @@
 ghost use Rattle.std.specs.Prelude.{◌≡◌};
 ghost use Rattle.protocol.specs.Call.{AskAnswer, AskNoOp, meaning};
 ghost use Rattle.bench.specs.Setups.{setup_of};
-ghost use Rattle.bench.specs.States.{service_of, state_of, memory_with};
+ghost use Rattle.std.specs.List.{fold};
+ghost use Rattle.protocol.specs.State.{added_to};
+ghost use Rattle.bench.specs.States.{service_of, state_of};
 ghost use Rattle.life.specs.Calls.{call_of, certificate_outcome};
 ghost use Rattle.life.specs.Making.{Makes, Keeps};
 
@@ -59,7 +61,7 @@ fn ask_no_op<R: Register, S: Service>(
 // Makes a call.
 pub(crate) fn make<R: Register, S: Service>(bench: &mut Bench<'_, R, S>, call: &Call<'_>) -> Outcome
     ensures makes { Makes (setup_of bench.old.setup) (service_of S.fresh S.next S.answer (S.state bench.old.service.now)) (state_of R.held R.free bench.old) (call_of call.now) result (state_of R.held R.free bench.new) }
-    ensures memory { R.memory bench.new.register.now ≡ memory_with R.stores (R.memory bench.old.register.now) (state_of R.held R.free bench.old) (meaning (setup_of bench.old.setup) (service_of S.fresh S.next S.answer (S.state bench.old.service.now)) (state_of R.held R.free bench.old) (call_of call.now)).entry }
+    ensures memory { R.memory bench.new.register.now ≡ fold R.stores (R.memory bench.old.register.now) (added_to (state_of R.held R.free bench.old) (meaning (setup_of bench.old.setup) (service_of S.fresh S.next S.answer (S.state bench.old.service.now)) (state_of R.held R.free bench.old) (call_of call.now)).entry) }
     ensures keeps { Keeps (λ s. S.fresh (S.state s)) bench.old bench.new }
 {
     match *call {

@@ -7,7 +7,7 @@ use Rattle.record.specs.declared.Record.{Record}
 use Rattle.register.specs.Sets.{Set, nothing, added}
 use Rattle.quorum.specs.Quorums.{said}
 use Rattle.replica.specs.Words.{bit}
-use Rattle.replica.specs.Replicas.{still, delivered, committed, settled, left, started, entered}
+use Rattle.replica.specs.Replicas.{initial, delivered, committed, settled, left, started, entered}
 use Rattle.replica.specs.declared.Replica.{Replica}
 use Rattle.replica.proofs.Words.{bit_above, one_past_over}
 use Rattle.merge.specs.Merges.{merge}
@@ -27,7 +27,7 @@ use Rattle.protocol.proofs.Merging.{started_bounds, merged}
 
 -- a model as a bench opens
 abbrev pub opening : Model
-opening = record { stamped = []; held = nothing; replica = λ _. still }
+opening = record { stamped = []; held = nothing; replica = λ _. initial }
 
 pub opening_inv : (u : Setup) (V : Service) → Few u → Inv u V opening
 opening_inv u V few =

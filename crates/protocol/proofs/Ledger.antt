@@ -1,6 +1,6 @@
 -- Every call of every life keeps the rules and is refused on its own grounds or since the register is full, and every life keeps one ledger.
 use Rattle.std.proofs.Common.{◌≡◌, ℕ, zero, suc, length, get_or, replicate, take, sym, refl, subst}
-use Rattle.replica.specs.Replicas.{still}
+use Rattle.replica.specs.Replicas.{initial}
 use Rattle.protocol.specs.Setup.{Setup}
 use Rattle.protocol.specs.Service.{Service}
 use Rattle.protocol.specs.State.{State, opened}
@@ -26,14 +26,14 @@ sound_next u V x c S =
       room = K.room;
     }
 
-all_still : (n j : ℕ) → get_or (replicate n still) j still ≡ still
-all_still zero j = refl
-all_still (suc n) zero = refl
-all_still (suc n) (suc j) = all_still n j
+all_initial : (n j : ℕ) → get_or (replicate n initial) j initial ≡ initial
+all_initial zero j = refl
+all_initial (suc n) zero = refl
+all_initial (suc n) (suc j) = all_initial n j
 
 opens_as_model : (n : ℕ) → opening ≡ model (opened n)
 opens_as_model n k =
-    record { stamped = opening.stamped; held = opening.held; replica = λ j. sym (all_still 16 j) k }
+    record { stamped = opening.stamped; held = opening.held; replica = λ j. sym (all_initial 16 j) k }
 
 state_sound : (y : Life) (k : ℕ) → Sound y.bench y.service (state_at y k)
 state_sound y k =

@@ -15,7 +15,7 @@ use Rattle.protocol.specs.Answer.{answer_grounds}
 use Rattle.protocol.specs.NoOp.{no_op_grounds}
 use Rattle.protocol.specs.Call.{AskAnswer, AskNoOp, Yes, No, certificate}
 use Rattle.protocol.specs.Life.{Life, state_at}
-use Rattle.protocol.specs.Law.{Signers, Answered, Skipped, Agrees, OneLedger}
+use Rattle.protocol.specs.Law.{Signers, AnswerCertified, NoOpCertified, Agrees, OneLedger}
 use Rattle.protocol.specs.Steps.{model}
 use Rattle.protocol.proofs.Books.{stamped_below}
 use Rattle.protocol.proofs.Certificates.{Certificates}
@@ -61,7 +61,7 @@ module _ (y : Life) (k : ℕ) (I : Inv y.bench y.service (model (state_at y k)))
   stamped_if_known : (l : ℕ) → Known (book (state_at y k).stamped) l → is_stamped (state_at y k).stamped l ≡ true
   stamped_if_known l n = lt-ltb l (length (state_at y k).stamped) (stamped_below (state_at y k).stamped l n.0 n.1)
 
-  answer_granted : (v s w a : ℕ) → Answered y k v s w a → is_ok (answer_grounds (state_at y k) 16 v s w) ≡ true
+  answer_granted : (v s w a : ℕ) → AnswerCertified y k v s w a → is_ok (answer_grounds (state_at y k) 16 v s w) ≡ true
   answer_granted v s w a q =
       let h = honest (reply_by 0 v s w a) q in
       let l = I.layout (reply_by h.who v s w a) h.says in
@@ -71,7 +71,7 @@ module _ (y : Life) (k : ℕ) (I : Inv y.bench y.service (model (state_at y k)))
       let stamped = stamped_if_known s (f.stamped s (omega arith)) in
       search rules
 
-  no_op_granted : (v s : ℕ) → Skipped y k v s → is_ok (no_op_grounds (state_at y k) 16 v s) ≡ true
+  no_op_granted : (v s : ℕ) → NoOpCertified y k v s → is_ok (no_op_grounds (state_at y k) 16 v s) ≡ true
   no_op_granted v s q =
       let h = honest (commit_by 0 v s 1) q in
       let l = I.layout (commit_by h.who v s 1) h.says in
@@ -90,7 +90,7 @@ module _
         → QuorumSaid y.bench (model (state_at y (length y.calls))).held r
     at_end k r le s = quorum_on y k (length y.calls) r le (quorum_of_signers y k r s)
 
-    answer_agrees : (k v s w a : ℕ) → k ≤ length y.calls → Answered y k v s w a → Agrees y agreed.0 s w a
+    answer_agrees : (k v s w a : ℕ) → k ≤ length y.calls → AnswerCertified y k v s w a → Agrees y agreed.0 s w a
     answer_agrees k v s w a le q =
         let e = at_end k (reply_by 0 v s w a) le q in
         record {
@@ -99,7 +99,7 @@ module _
           result = agreed.2.result v s w a e;
         }
 
-    no_op_agrees : (k v s : ℕ) → k ≤ length y.calls → Skipped y k v s → bit agreed.0 s ≡ true
+    no_op_agrees : (k v s : ℕ) → k ≤ length y.calls → NoOpCertified y k v s → bit agreed.0 s ≡ true
     no_op_agrees k v s le q = agreed.2.no_op v s (at_end k (commit_by 0 v s 1) le q)
 
     pub ledger : OneLedger y

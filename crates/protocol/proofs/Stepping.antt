@@ -16,7 +16,7 @@ use Rattle.record.specs.declared.Record.{Record}
 use Rattle.record.proofs.Layouts.{layout_from, layout_to}
 use Rattle.record.proofs.Same.{same_decides}
 use Rattle.register.specs.Sets.{Set, added, adds, entering, held_after}
-use Rattle.replica.specs.Replicas.{still}
+use Rattle.replica.specs.Replicas.{initial}
 use Rattle.replica.specs.declared.Replica.{Replica}
 use Rattle.protocol.specs.Setup.{Setup}
 use Rattle.protocol.specs.Service.{Service, Short}
@@ -80,16 +80,16 @@ module _ (s : Set) (n : ℕ) (r : Record) (ok : is_ok (entering s n r) ≡ true)
 
 set_placed :
     (rs : List Replica) (i : ℕ) (r : Replica) → i < length rs → (j : ℕ)
-    → get_or (set rs i r) j still ≡ placed (λ k. get_or rs k still) i r j
+    → get_or (set rs i r) j initial ≡ placed (λ k. get_or rs k initial) i r j
 set_placed rs i r h j =
     elim (cases_eq i j) [
       | inl e ↦
-          ap (λ (k : ℕ). get_or (set rs i r) k still) (sym e)
-          ∙ get_or-set_same rs i r still h
-          ∙ sym (cond-true (eqb i j) r (get_or rs j still) (eq-eqb i j e))
+          ap (λ (k : ℕ). get_or (set rs i r) k initial) (sym e)
+          ∙ get_or-set_same rs i r initial h
+          ∙ sym (cond-true (eqb i j) r (get_or rs j initial) (eq-eqb i j e))
       | inr e ↦
-          get_or-set_other rs i j r still (λ t. e (sym t))
-          ∙ sym (cond-false (eqb i j) r (get_or rs j still) (ne_eqb i j e))
+          get_or-set_other rs i j r initial (λ t. e (sym t))
+          ∙ sym (cond-false (eqb i j) r (get_or rs j initial) (ne_eqb i j e))
     ]
 
 placed_self : (f : ℕ → Replica) (i j : ℕ) → f j ≡ placed f i (f i) j
@@ -137,7 +137,7 @@ module _ (u : Setup) (V : Service) (x : State) (S : Sound u V x) where
   says_for :
       (g : Answer) (i : ℕ) (R : Replica) (r : Record) (rs : List Replica)
       → (is_ok g ≡ true → (i < 16) × Allowed u V (model x) (says i R r)) → length rs ≡ 16
-      → (i < 16 → (j : ℕ) → get_or rs j still ≡ placed (λ n. replica_at x n) i R j)
+      → (i < 16 → (j : ℕ) → get_or rs j initial ≡ placed (λ n. replica_at x n) i R j)
       → Kept u V x (acting x (record { grounds = g; says = Some r; stamped = x.stamped; replicas = rs }))
   unfolding granted
   says_for g i R r rs f room replicas =

@@ -1,13 +1,13 @@
 -- The one-ledger law: where at most f of the 3f + 1 replicas are foreign, no slot is certified two ways, whoever picks the calls and their order.
 -- A life is a granted open over an empty register and then any list of calls, granted or refused. After k of its calls:
---   Entered y k r         — a granted call of the life y entered the statement r
---   Signers y k r         — q different replicas below n are signers under which r was entered (the signer that stands in r does not count)
---   Answered y k v s w a  — the answer a for slot s in view v, with the word w of the no-ops below the slot, is certified
---   Skipped y k v s       — the no-op at slot s in view v is certified
---   SaysYes y k c         — the call c, put next, is answered yes
+--   Entered y k r               — a granted call of the life y entered the statement r
+--   Signers y k r               — q different replicas below n are signers under which r was entered (the signer that stands in r does not count)
+--   AnswerCertified y k v s w a — the answer a for slot s in view v, with the word w of the no-ops below the slot, is certified
+--   NoOpCertified y k v s       — the no-op at slot s in view v is certified
+--   SaysYes y k c               — the call c, put next, is answered yes
 -- Of a line of 64 verdicts, as a number whose bit l is set where slot l is a no-op:
---   Agrees y line s w a   — the line has an operation at slot s and the no-ops w below it, and a is what the single service answers for the slot along the line
---   OneLedger y           — the law for the life y
+--   Agrees y line s w a         — the line has an operation at slot s and the no-ops w below it, and a is what the single service answers for the slot along the line
+--   OneLedger y                 — the law for the life y
 -- The single service is one service, freshly cleared, that takes the slots from 0 upward and is fed the operations stamped in the life; a no-op of the line and an unstamped slot leave it as it is. It answers for a stamped slot that is no no-op of the line, so a certified answer's slot is one.
 use Rattle.std.specs.Prelude.{◌≡◌, ℕ, ◌%◌, ◌^◌, ◌<◌, ◌≤◌, true, false, ◌≢◌, List, length, take, Some, AllPairs, slice_get}
 use Rattle.std.specs.List.{AllByRecursion}
@@ -33,11 +33,11 @@ pub record Signers (y : Life) (k : ℕ) (r : Record) : Type 0 where
   -- each of a replica below n, under which a granted call entered r
   pub each : AllByRecursion (λ (i : ℕ). (i < replicas y.bench) × Entered y k (signed_by r i)) who
 
-abbrev pub Answered : Life → (k v s w a : ℕ) → Type 0
-Answered y k v s w a = Signers y k (reply_by 0 v s w a)
+abbrev pub AnswerCertified : Life → (k v s w a : ℕ) → Type 0
+AnswerCertified y k v s w a = Signers y k (reply_by 0 v s w a)
 
-abbrev pub Skipped : Life → (k v s : ℕ) → Type 0
-Skipped y k v s = Signers y k (commit_by 0 v s 1)
+abbrev pub NoOpCertified : Life → (k v s : ℕ) → Type 0
+NoOpCertified y k v s = Signers y k (commit_by 0 v s 1)
 
 abbrev pub SaysYes : Life → ℕ → Call → Type 0
 SaysYes y k c = (meaning y.bench y.service (state_at y k) c).outcome ≡ Yes
@@ -56,21 +56,21 @@ pub record OneLedger (y : Life) : Type 0 where
   -- it has 64 bits
   pub short : line < 2 ^ 64
   -- it agrees with every answer that is certified at any step
-  pub answers : (k v s w a : ℕ) → k ≤ length y.calls → Answered y k v s w a → Agrees y line s w a
+  pub answers : (k v s w a : ℕ) → k ≤ length y.calls → AnswerCertified y k v s w a → Agrees y line s w a
   -- and with every no-op that is certified at any step
-  pub no_ops : (k v s : ℕ) → k ≤ length y.calls → Skipped y k v s → bit line s ≡ true
+  pub no_ops : (k v s : ℕ) → k ≤ length y.calls → NoOpCertified y k v s → bit line s ≡ true
   -- what is certified at a step is certified at every later one
-  pub answers_last : (j k v s w a : ℕ) → j ≤ k → k ≤ length y.calls → Answered y j v s w a → Answered y k v s w a
-  pub no_ops_last : (j k v s : ℕ) → j ≤ k → k ≤ length y.calls → Skipped y j v s → Skipped y k v s
+  pub answers_last : (j k v s w a : ℕ) → j ≤ k → k ≤ length y.calls → AnswerCertified y j v s w a → AnswerCertified y k v s w a
+  pub no_ops_last : (j k v s : ℕ) → j ≤ k → k ≤ length y.calls → NoOpCertified y j v s → NoOpCertified y k v s
   -- and an operation that is stamped at a step is stamped at its slot at every later one
   pub stamped_last :
       (j k l o : ℕ) → j ≤ k → k ≤ length y.calls → book (state_at y j).stamped l ≡ Some o
       → book (state_at y k).stamped l ≡ Some o
   -- exactly what is certified at a step is answered yes, put next with a buffer of 16 bytes
-  pub answer_yes : (k v s w a : ℕ) → k ≤ length y.calls → Answered y k v s w a → SaysYes y k (AskAnswer 16 v s w a)
-  pub yes_answer : (k v s w a : ℕ) → k ≤ length y.calls → SaysYes y k (AskAnswer 16 v s w a) → Answered y k v s w a
-  pub no_op_yes : (k v s : ℕ) → k ≤ length y.calls → Skipped y k v s → SaysYes y k (AskNoOp 16 v s)
-  pub yes_no_op : (k v s : ℕ) → k ≤ length y.calls → SaysYes y k (AskNoOp 16 v s) → Skipped y k v s
+  pub answer_yes : (k v s w a : ℕ) → k ≤ length y.calls → AnswerCertified y k v s w a → SaysYes y k (AskAnswer 16 v s w a)
+  pub yes_answer : (k v s w a : ℕ) → k ≤ length y.calls → SaysYes y k (AskAnswer 16 v s w a) → AnswerCertified y k v s w a
+  pub no_op_yes : (k v s : ℕ) → k ≤ length y.calls → NoOpCertified y k v s → SaysYes y k (AskNoOp 16 v s)
+  pub yes_no_op : (k v s : ℕ) → k ≤ length y.calls → SaysYes y k (AskNoOp 16 v s) → NoOpCertified y k v s
   -- so a caller who is answered yes in the life itself, with a buffer of b bytes, has what agrees with the line
   pub told_answer :
       (k b v s w a : ℕ) → slice_get y.calls k ≡ Some (AskAnswer b v s w a) → slice_get (outcomes_of y) k ≡ Some Yes

@@ -2,7 +2,7 @@
 --   State               — the operations stamped, that of slot 0 first; the statements held and the free places of the register; the replicas by number
 --   replica_at x i      — replica i
 --   with_replica x i r  — the replicas, with r for replica i
---   opened_over s n     — a state in which nothing is stamped, the set s is held, n places are free and every replica is still
+--   opened_over s n     — a state in which nothing is stamped, the set s is held, n places are free and every replica is as at opening
 --   opened n            — the state after a granted open, where the register has n free places: that one, with nothing held
 --   Action              — what a call that changes a bench comes to: its grounds in order but for the register's own, the statement that it says, and what a grant leaves of operations and replicas
 --   entry_answer x o    — what the register answers where the statement o, if any, is entered
@@ -16,8 +16,8 @@
 use Rattle.std.specs.Prelude.{ℕ, cond, List, [], ◌∷◌, replicate, is_ok, Some, None, Ok, Option, slice_index_or, slice_set}
 use Rattle.refusal.specs.Grounds.{Answer, and_then}
 use Rattle.record.specs.declared.Record.{Record}
-use Rattle.register.specs.Sets.{Set, nothing, adds, entering, held_after, free_after}
-use Rattle.replica.specs.Replicas.{still}
+use Rattle.register.specs.Sets.{Set, nothing, adding, entering, held_after, free_after}
+use Rattle.replica.specs.Replicas.{initial}
 use Rattle.replica.specs.declared.Replica.{Replica}
 
 pub record State : Type 0 where
@@ -27,13 +27,13 @@ pub record State : Type 0 where
   pub replicas : List Replica
 
 abbrev pub replica_at : State → ℕ → Replica
-replica_at x i = slice_index_or x.replicas i still
+replica_at x i = slice_index_or x.replicas i initial
 
 abbrev pub with_replica : State → ℕ → Replica → List Replica
 with_replica x i r = slice_set x.replicas i r
 
 abbrev pub opened_over : Set → ℕ → State
-opened_over s n = record { stamped = []; held = s; free = n; replicas = replicate 16 still }
+opened_over s n = record { stamped = []; held = s; free = n; replicas = replicate 16 initial }
 
 abbrev pub opened : ℕ → State
 opened n = opened_over nothing n
@@ -61,7 +61,7 @@ free_with x (Some r) = free_after x.held x.free r
 
 abbrev pub added_to : State → Option Record → List Record
 added_to x None = []
-added_to x (Some r) = cond (adds x.held x.free r) (r ∷ []) []
+added_to x (Some r) = adding x.held x.free r
 
 abbrev pub state_after : State → Action → State
 state_after x a =

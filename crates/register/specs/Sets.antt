@@ -7,9 +7,11 @@
 --   entering s n r               — what entering r answers
 --   held_after s n r             — the set afterwards
 --   free_after s n r             — the number of free places afterwards
+--   adding s n r           — r as a list, where entering r adds it, else the empty list
 --   memory_after stores m s n r  — the memory afterwards: where r is added, what stores makes of the memory m, else m
 --   Entered s n r a s' n'        — r was entered: that set and number became s' and n', and the answer was a
-use Rattle.std.specs.Prelude.{◌≡◌, ℕ, ◌-◌, Bool, true, false, cond, not, ◌&&◌, ◌||◌, Ok, Err, Result, ◌==◌}
+use Rattle.std.specs.Prelude.{◌≡◌, ℕ, ◌-◌, Bool, true, false, cond, not, ◌&&◌, ◌||◌, List, [], ◌∷◌, Ok, Err, Result, ◌==◌}
+use Rattle.std.specs.List.{fold}
 use Rattle.refusal.specs.Grounds.{refused}
 use Rattle.refusal.specs.declared.Ground.TheVariants.{Layout, RegisterFull}
 use Rattle.refusal.specs.declared.Refusal.{Refusal}
@@ -46,8 +48,11 @@ held_after s n r = cond (adds s n r) (added s r) s
 abbrev pub free_after : Set → ℕ → Record → ℕ
 free_after s n r = cond (adds s n r) (n - 1) n
 
+abbrev pub adding : Set → ℕ → Record → List Record
+adding s n r = cond (adds s n r) (r ∷ []) []
+
 abbrev pub memory_after : {M : Type 0} → (M → Record → M) → M → Set → ℕ → Record → M
-memory_after stores m s n r = cond (adds s n r) (stores m r) m
+memory_after stores m s n r = fold stores m (adding s n r)
 
 pub record Entered (s : Set) (n : ℕ) (r : Record) (a : Result (Unit {0}) Refusal) (s' : Set) (n' : ℕ) : Type 0 where
   pub answer : a ≡ entering s n r

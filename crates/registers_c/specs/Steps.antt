@@ -17,7 +17,7 @@
 use Rattle.std.specs.Prelude.{◌≡◌, ℕ, Bool, cond, MatchBool, List, [], ◌∷◌, ◌++◌, Ok, Err, ◌==◌}
 use Rattle.refusal.specs.Grounds.{Answer, ground_number}
 use Rattle.record.specs.declared.Record.{Record}
-use Rattle.register.specs.Sets.{Set, nothing, Emptiness, entering, adds, held_after, free_after}
+use Rattle.register.specs.Sets.{Set, nothing, Emptiness, entering, adding, held_after, free_after}
 use Rattle.quorum.specs.Quorums.{count, said}
 use Rattle.registers_c.specs.declared.step.Step.{Step}
 
@@ -60,7 +60,7 @@ abbrev pub free_then : Set → ℕ → Step → ℕ
 free_then s n t = cond (t.number == 3) (free_after s n t.statement) n
 
 abbrev pub added_here : Set → ℕ → Step → List Record
-added_here s n t = cond (t.number == 3) (cond (adds s n t.statement) (t.statement ∷ []) []) []
+added_here s n t = cond (t.number == 3) (adding s n t.statement) []
 
 abbrev pub added_by : Set → ℕ → List Step → List Record
 added_by s n [] = []

@@ -1,5 +1,5 @@
 -- A replica, and what each step makes of it.
---   still             — a replica as a bench opens with it: every number is 0, and the mark is clear
+--   initial           — a replica as a bench opens with it: every number is 0, and the mark is clear
 --   reach r           — the greater of r's length and one past its highest sealed bit
 --   longer n          — the length of a line of length n after one more verdict; a line of 64 is full, and stays
 --   delivered r       — r with an operation appended to its line
@@ -14,8 +14,8 @@ use Rattle.replica.specs.declared.Verdict.{Verdict}
 use Rattle.replica.specs.Words.{one_past}
 use Rattle.replica.specs.Verdicts.{with_verdict, sealed_with}
 
-abbrev pub still : Replica
-still = record { view = 0; target = 0; base = 0; length = 0; word = 0; sealed = 0; mark = false }
+abbrev pub initial : Replica
+initial = record { view = 0; target = 0; base = 0; length = 0; word = 0; sealed = 0; mark = false }
 
 abbrev pub reach : Replica → ℕ
 reach r = max r.length (one_past r.sealed)

@@ -1,7 +1,7 @@
 //! Views: what a replica is allowed in its mode, and how it goes from view to view.
 ghost use Rattle.std.specs.Prelude.{◌≡◌, Ok};
 ghost use Rattle.replica.specs.Modes.{mode_of, in_mode};
-ghost use Rattle.replica.specs.Replicas.{still, reach, left, started, entered};
+ghost use Rattle.replica.specs.Replicas.{initial, reach, left, started, entered};
 
 use crate::word::one_past;
 use crate::{Mode, Replica, Step};
@@ -10,7 +10,7 @@ use refusal::{Ground, Refusal};
 impl Replica {
     /// A replica as a bench opens with it: every number is 0, and the mark is clear.
     pub fn new() -> Replica
-        ensures { result ≡ still }
+        ensures { result ≡ initial }
     {
         Replica::default()
     }
