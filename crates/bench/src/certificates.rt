@@ -62,7 +62,7 @@ impl<'a, R: Register, S: Service> Bench<'a, R, S> {
 
     /// Whether the answer `value` for the slot in the view, with the word of the no-ops below the
     /// slot, is certified: whether a quorum said that REPLY. If so, a quorum of different replicas that
-    /// said it stands in the first bytes of the buffer, which has to have 16 bytes. It changes nothing else.
+    /// said it stands in the first bytes of the buffer, which has to have at least 16 bytes. It changes nothing else.
     pub fn answer(
         &self,
         witnesses: &mut [u8],
@@ -80,7 +80,7 @@ impl<'a, R: Register, S: Service> Bench<'a, R, S> {
 
     /// Whether the no-op of the slot in the view is certified: whether a quorum said COMMIT of no-op
     /// there. If so, a quorum of different replicas that said it stands in the first bytes of the
-    /// buffer, which has to have 16 bytes. It changes nothing else.
+    /// buffer, which has to have at least 16 bytes. It changes nothing else.
     pub fn no_op(&self, witnesses: &mut [u8], view: u64, slot: u64) -> Result<bool, Refusal>
         ensures { Certifies (setup_of self.now.setup) (state_of R.held R.free self.now) (no_op_grounds (state_of R.held R.free self.now) (length witnesses.old) view slot) (commit_by 0 view slot 1) witnesses.old result witnesses.new }
     {
