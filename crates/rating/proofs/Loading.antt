@@ -1,15 +1,16 @@
 -- A LOAD keeps the numbers of the curves different, so there are never more curves than numbers.
-use Rattle.std.proofs.Common.{◌≡◌, ◌≢◌, ℕ, suc, ◌<◌, ◌≤◌, Bool, true, false, cond, not, eqb, [], ◌∷◌, length, map, filter, All, AllPairs, subst, sym, refl, ap, ◌∙◌, arith}
+use Rattle.std.proofs.Common.{◌≡◌, ◌≢◌, ℕ, suc, ◌<◌, ◌≤◌, Bool, true, false, cond, not, eqb, [], ◌∷◌, ◌++◌, Option, Some, length, map, filter, All, AllPairs, subst, sym, refl, ap, ◌∙◌, arith}
 use Rattle.std.specs.List.{IsDistinct, list_any}
-use Rattle.std.specs.List.Retain.{RetainsInTurn}
+use Rattle.std.specs.Option.{option_to_list}
 use Rattle.std.proofs.lemmas.Bool.{eqb-true, eqb-false, not-true, ne_eqb}
-use Rattle.std.proofs.lemmas.List.{length-map}
+use Rattle.std.proofs.lemmas.List.{length-map, length_push}
 use Rattle.std.proofs.lemmas.List.Elements.{All-cons, All-filter, All-map, All-weaker, filter_passes, recursion_from_All}
 use Rattle.std.proofs.lemmas.List.Folds.{Any-from_list_any}
 use Rattle.std.proofs.lemmas.List.Kept.{AllPairs-cons, AllPairs-filter}
 use Rattle.std.proofs.lemmas.Map.Keys.{IsDistinct-cons}
 use Rattle.std.proofs.lemmas.Map.Steps.{length-le_from_distinct_below}
-use Rattle.arrayvec.proofs.ArrayVecLemmas.{filter-from_retain}
+use Rattle.arrayvec.specs.ArrayVec.{ArrayVec, with_items}
+use Rattle.arrayvec.proofs.ArrayVecLemmas.{items-with_items}
 use Rattle.rating.specs.Curves.{Curves, without, loaded, numbered}
 use Rattle.rating.specs.declared.curve.Curve.{Curve}
 
@@ -72,22 +73,28 @@ length-numbered b cs h =
     let same = length-map cs (λ c. c.number) in
     omega arith
 
--- what a LOAD of k makes of the curves cs, of which ys are kept
-pub record Loads (k : Curve) (cs ys : Curves) : Type 0 where
-  pub curves : k ∷ ys ≡ loaded k cs
-  pub numbers : numbered 8 (k ∷ ys)
-  pub room : length ys < 8
+numbered-loaded : (b : ℕ) (k : Curve) (cs : Curves) → k.number < b → numbered b cs → numbered b (loaded k cs)
+numbered-loaded b k cs l h =
+    subst (λ (zs : Curves). numbered b (k ∷ zs)) (others-without k.number cs h.apart) (numbered-others b k cs l h)
 
--- the test of R is whether the curve has another number than k
-pub loads : {F : Type 0} (R : F → Curve → Bool → F → Curve → Type 0) (k : Curve) (f : F)
-    → ((c : Curve) (b : Bool) (g : F) (d : Curve) → R f c b g d → (b ≡ not (eqb c.number k.number)) × (g ≡ f) × (d ≡ c))
-    → (cs ys : Curves) → k.number < 8 → numbered 8 cs → RetainsInTurn R f cs ys → Loads k cs ys
-loads R k f says cs ys l h retained =
-    let kept : ys ≡ others k.number cs = filter-from_retain R (λ c. not (eqb c.number k.number)) f says cs ys retained in
-    let numbers = subst (λ (zs : Curves). numbered 8 (k ∷ zs)) (sym kept) (numbered-others 8 k cs l h) in
-    let few = length-numbered 8 (k ∷ ys) numbers in
+-- after a LOAD of k the curves cs are the curves zs and the one left over, if there is one
+pub record Loads (k : Curve) (cs zs : Curves) (o : Option Curve) : Type 0 where
+  pub curves : zs ++ option_to_list o ≡ loaded k cs
+  pub numbers : numbered 8 (zs ++ option_to_list o)
+  pub room : (c : Curve) → o ≡ Some c → length zs < 8
+
+pub loads : (k : Curve) (v : ArrayVec Curve) (cs ws : Curves) (o : Option Curve) → k.number < 8 → numbered 8 v.items → cs ≡ v.items
+    → length ws ≡ length cs → ws ++ option_to_list o ≡ loaded k cs → Loads k v.items (with_items v ws).items o
+loads k v cs ws o l h held same e =
+    let curves : (with_items v ws).items ++ option_to_list o ≡ loaded k v.items =
+    ap (λ (zs : Curves). zs ++ option_to_list o) (items-with_items v ws (same ∙ ap length held)) ∙ e ∙ ap (loaded k) held in
+    let numbers = subst (numbered 8) (sym curves) (numbered-loaded 8 k v.items l h) in
     record {
-      curves = ap (λ (zs : Curves). k ∷ zs) (kept ∙ others-without k.number cs h.apart);
+      curves = curves;
       numbers = numbers;
-      room = omega arith;
+      room =
+          λ c left.
+          let few = length-numbered 8 _ (rw left at numbers) in
+          let one_more = length_push (with_items v ws).items c in
+          omega arith;
     }

@@ -1,4 +1,5 @@
-ghost use Rattle.std.specs.Prelude.{◌≡◌, ◌<◌, [], option_map};
+ghost use Rattle.std.specs.Prelude.{◌≡◌, ◌<◌, [], ◌++◌, option_map};
+ghost use Rattle.std.specs.Option.{option_to_list};
 ghost use Rattle.service.specs.Answers.{answer_of};
 ghost use Rattle.rating.specs.Curves.{Curves, flow, deciding, loaded};
 ghost use Rattle.rating.specs.Rating.{curves_of, rating_next, rating_answer};
@@ -8,6 +9,23 @@ use crate::operation::Operation;
 use crate::table::Rating;
 use arrayvec::ArrayVec;
 use service::{Service, Unanswered};
+use std::mem;
+
+// Puts a curve first. Those before the one of its number move by a place, and that one goes; where
+// there is none, all move, and the last is left over.
+#[tactic(auto, using(crate::proofs::Moving::moving_none, crate::proofs::Moving::moving_one, crate::proofs::Moving::moved_one, crate::proofs::Moving::moved_all))]
+fn put_first(curves: &mut [Curve], curve: Curve) -> Option<Curve>
+    ensures { curves.new ++ option_to_list result ≡ loaded curve curves.old }
+{
+    let mut moved = curve;
+    for held in curves.iter_mut() {
+        moved = mem::replace(held, moved);
+        if moved.number == curve.number {
+            return None;
+        }
+    }
+    Some(moved)
+}
 
 impl Rating {
     /// A rating service without curves.
@@ -24,8 +42,9 @@ impl Rating {
         requires { curve.number < 8 }
         ensures { curves_of self.new ≡ loaded curve (curves_of self.old) }
     {
-        self.curves.retain(|held| held.number != curve.number);
-        self.curves.insert(0, curve);
+        if let Some(last) = put_first(self.curves.as_mut_slice(), curve) {
+            self.curves.push(last);
+        }
     }
 
     // The flow at a stage, by the curve that decides.
