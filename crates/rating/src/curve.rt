@@ -7,11 +7,12 @@ use std::fmt;
 /// millimetres, both among them. It rises from `offset` by `slope` with each millimetre.
 #[derive(Clone, Copy, Debug, Default, PartialEq, Eq, Hash)]
 pub struct Curve {
-    pub number: u8,
+    // From the widest to the narrowest, so that a curve takes 12 bytes.
+    pub offset: u32,
     pub low: u16,
     pub high: u16,
-    pub offset: u32,
     pub slope: u16,
+    pub number: u8,
 }
 
 // By hand: a derived text has no contract.

@@ -83,6 +83,7 @@ impl Service for Rating {
 
     ghost answer = { rating_answer };
 
+    #[inline]
     fn apply(&mut self, operation: u64) -> u64 {
         // Written in each service: in the trait, what it calls would be public too.
         self.perform(operation).unwrap_or_else(u64::from)
