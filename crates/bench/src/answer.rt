@@ -5,20 +5,23 @@ ghost use Rattle.protocol.specs.Service.{book, answer_at};
 
 use crate::open::Bench;
 use register::Register;
-use replica::bit;
 use service::Service;
 
 // Clears the service, feeds it the operations below the slot but for the word's no-ops, and answers
 // what it gives for the operation of the slot.
-#[tactic(auto, using(crate::proofs::Feeding::fed_none, crate::proofs::Feeding::fed_no_op, crate::proofs::Feeding::fed_one, crate::proofs::Feeding::answered))]
+#[tactic(auto, using(crate::proofs::Feeding::fed_none, crate::proofs::Feeding::answered))]
 fn answer_along<S: Service>(service: &mut S, operations: &[u64], word: u64, slot: u8) -> u64
     requires { slot < length operations.now }
     ensures answer { result ≡ answer_at (service_of S.fresh S.next S.answer (S.state service.old)) (book operations.now) word slot }
     ensures kind { S.fresh (S.state service.new) ≡ S.fresh (S.state service.old) }
 {
     service.clear();
+    // The word from the bit of slot l on.
+    let mut later = word;
     for l in 0..slot {
-        if bit(word, l) {
+        let no_op = later % 2 == 1;
+        later /= 2;
+        if no_op {
             continue;
         }
         service.apply(operations[usize::from(l)]);
