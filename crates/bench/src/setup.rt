@@ -28,8 +28,7 @@ impl Setup {
     pub fn check<R: Register>(f: u64, foreign: u64, register: &R) -> Result<Setup, Refusal>
         ensures { Checks (record { f = f; mask = foreign }) (R.held register.now) result }
     {
-        let empty = register.is_empty();
-        if f < 1 || f > 5 {
+        if !(1..=5).contains(&f) {
             return Err(Ground::FaultBound.into());
         }
         let setup = Setup {
@@ -39,7 +38,7 @@ impl Setup {
         if foreign >> setup.members().replicas != 0 || foreign.count_ones() > u32::from(setup.f) {
             return Err(Ground::ForeignMask.into());
         }
-        if !empty {
+        if !register.is_empty() {
             return Err(Ground::RegisterNotEmpty.into());
         }
         Ok(setup)
