@@ -1,5 +1,4 @@
-//! The registers that steps are made on. Each export calls one of these and promises what it
-//! promises, so what refuses an edit of an export is the export itself.
+//! The registers that steps are made on. Each export calls one of these, and promises the same.
 ghost use Rattle.std.specs.Prelude.{◌≡◌, length};
 ghost use Rattle.record.specs.Tapes.{places};
 ghost use Rattle.register.specs.Sets.{nothing};
