@@ -3,14 +3,14 @@
 --   granted b m       — the balance b after a GRANT of m, if it stays in its range
 --   drawn b m         — the balance b after a DRAW of m, if it stays in its range
 --   put bs a o        — the balances bs with o, if there is one, as the balance of the account a
---   told o            — the answer where o is the new balance, if there is one
---   applied bs o      — the balances after the operation o
---   answering bs o    — the answer to the operation o
+--   in_range_answer o            — the answer where o is the new balance, if there is one
+--   balances_after bs o      — the balances after the operation o
+--   balances_answer bs o    — the answer to the operation o
 --   allotment_next    — the balances after 64 bits
 --   allotment_answer  — the answer to 64 bits
 use Rattle.std.specs.Prelude.{ℕ, ◌+◌, ◌-◌, ◌^◌, cond, List, replicate, Some, None, Option, nat_le, nat_lt, slice_index, slice_set}
 use Rattle.service.specs.Operations.{out_of_range, malformed}
-use Rattle.allotment.specs.Decoded.{decoded}
+use Rattle.allotment.specs.Operations.{allotment_operation}
 use Rattle.allotment.specs.declared.operation.Operation.{Operation}
 use Rattle.allotment.specs.declared.operation.Operation.TheVariants.{Grant, Draw}
 
@@ -27,22 +27,22 @@ abbrev pub put : List ℕ → ℕ → Option ℕ → List ℕ
 put bs a (Some b) = slice_set bs a b
 put bs a None = bs
 
-abbrev pub told : Option ℕ → ℕ
-told (Some b) = b
-told None = out_of_range
+abbrev pub in_range_answer : Option ℕ → ℕ
+in_range_answer (Some b) = b
+in_range_answer None = out_of_range
 
-abbrev pub applied : List ℕ → Option Operation → List ℕ
-applied bs (Some (Grant a m)) = put bs a (granted (slice_index bs a) m)
-applied bs (Some (Draw a m)) = put bs a (drawn (slice_index bs a) m)
-applied bs None = bs
+abbrev pub balances_after : List ℕ → Option Operation → List ℕ
+balances_after bs (Some (Grant a m)) = put bs a (granted (slice_index bs a) m)
+balances_after bs (Some (Draw a m)) = put bs a (drawn (slice_index bs a) m)
+balances_after bs None = bs
 
-abbrev pub answering : List ℕ → Option Operation → ℕ
-answering bs (Some (Grant a m)) = told (granted (slice_index bs a) m)
-answering bs (Some (Draw a m)) = told (drawn (slice_index bs a) m)
-answering bs None = malformed
+abbrev pub balances_answer : List ℕ → Option Operation → ℕ
+balances_answer bs (Some (Grant a m)) = in_range_answer (granted (slice_index bs a) m)
+balances_answer bs (Some (Draw a m)) = in_range_answer (drawn (slice_index bs a) m)
+balances_answer bs None = malformed
 
 abbrev pub allotment_next : List ℕ → ℕ → List ℕ
-allotment_next bs op = applied bs (decoded op)
+allotment_next bs op = balances_after bs (allotment_operation op)
 
 abbrev pub allotment_answer : List ℕ → ℕ → ℕ
-allotment_answer bs op = answering bs (decoded op)
+allotment_answer bs op = balances_answer bs (allotment_operation op)

@@ -1,2 +1,3 @@
-pub mod Decoded
+pub mod Operations
 pub mod Balances
+pub mod Bounds

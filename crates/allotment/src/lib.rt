@@ -6,6 +6,7 @@ ghost use Rattle.std.specs.Option.{ok_or};
 ghost use Rattle.service.specs.Answers.{answer_of};
 ghost use Rattle.service.specs.declared.answer.Unanswered.TheVariants.{OutOfRange};
 ghost use Rattle.allotment.specs.Balances.{no_balances, put, allotment_next, allotment_answer};
+ghost use Rattle.allotment.specs.Bounds.{allotment_short};
 
 use service::{Service, Unanswered};
 use std::marker::Model;
@@ -76,6 +77,8 @@ impl Service for Allotment {
     ghost next = { allotment_next };
 
     ghost answer = { allotment_answer };
+
+    ghost answers_64_bits = { λ _. allotment_short };
 
     fn apply(&mut self, operation: u64) -> u64 {
         // Written in each service: in the trait, what it calls would be public too.

@@ -1,5 +1,5 @@
 ghost use Rattle.service.specs.Operations.{Decodes, Encodes};
-ghost use Rattle.allotment.specs.Decoded.{decoded};
+ghost use Rattle.allotment.specs.Operations.{allotment_operation};
 
 use service::{Unencodable, UnknownOperation};
 
@@ -16,7 +16,7 @@ pub enum Operation {
 impl TryFrom<u64> for Operation {
     type Error = UnknownOperation;
 
-    ghost try_from_gives = { Decodes decoded };
+    ghost try_from_gives = { Decodes allotment_operation };
 
     fn try_from(bits: u64) -> Result<Operation, UnknownOperation> {
         // The layout is fixed: kind 2 bits, account 4, amount 32, filling 26.
@@ -34,7 +34,7 @@ impl TryFrom<u64> for Operation {
 impl TryFrom<Operation> for u64 {
     type Error = Unencodable;
 
-    ghost try_from_gives = { Encodes decoded };
+    ghost try_from_gives = { Encodes allotment_operation };
 
     fn try_from(operation: Operation) -> Result<u64, Unencodable> {
         // The layout is fixed.

@@ -1,3 +1,4 @@
 pub mod Curves
-pub mod Decoded
+pub mod Operations
 pub mod Rating
+pub mod Bounds

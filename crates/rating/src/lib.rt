@@ -4,8 +4,8 @@
 mod curve;
 mod operation;
 mod serving;
-mod table;
+mod state;
 
 pub use curve::Curve;
 pub use operation::Operation;
-pub use table::Rating;
+pub use state::Rating;

@@ -1,5 +1,5 @@
 ghost use Rattle.service.specs.Operations.{Decodes, Encodes};
-ghost use Rattle.rating.specs.Decoded.{decoded};
+ghost use Rattle.rating.specs.Operations.{rating_operation};
 
 use crate::curve::Curve;
 use service::{Unencodable, UnknownOperation};
@@ -17,7 +17,7 @@ pub enum Operation {
 impl TryFrom<u64> for Operation {
     type Error = UnknownOperation;
 
-    ghost try_from_gives = { Decodes decoded };
+    ghost try_from_gives = { Decodes rating_operation };
 
     fn try_from(bits: u64) -> Result<Operation, UnknownOperation> {
         // The layout is fixed. LOAD is kind 1: kind 2 bits, curve 3, low 14, high 14, offset 20,
@@ -45,7 +45,7 @@ impl TryFrom<u64> for Operation {
 impl TryFrom<Operation> for u64 {
     type Error = Unencodable;
 
-    ghost try_from_gives = { Encodes decoded };
+    ghost try_from_gives = { Encodes rating_operation };
 
     fn try_from(operation: Operation) -> Result<u64, Unencodable> {
         // The layout is fixed.

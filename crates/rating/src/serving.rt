@@ -6,7 +6,7 @@ ghost use Rattle.rating.specs.Rating.{curves_of, rating_next, rating_answer};
 
 use crate::curve::Curve;
 use crate::operation::Operation;
-use crate::table::Rating;
+use crate::state::Rating;
 use arrayvec::ArrayVec;
 use service::{Service, Unanswered};
 use std::mem;
@@ -73,6 +73,8 @@ impl Rating {
 }
 
 impl Service for Rating {
+    ghost use Rattle.rating.specs.Bounds.{rating_short};
+
     ghost State = { Curves };
 
     ghost state = { curves_of };
@@ -82,6 +84,8 @@ impl Service for Rating {
     ghost next = { rating_next };
 
     ghost answer = { rating_answer };
+
+    ghost answers_64_bits = { λ _. rating_short };
 
     #[inline]
     fn apply(&mut self, operation: u64) -> u64 {

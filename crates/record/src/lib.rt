@@ -14,6 +14,10 @@ pub use tape::{Part, Reader, part_at};
 /// The number of bytes that a record is packed into.
 pub const SIZE: usize = 20;
 
+/// The greatest number of signers: a packed record has four bits for the signer, so no more than
+/// 16 replicas can say a statement.
+pub const SIGNERS: usize = 16;
+
 /// A record: the fields of a statement as plain numbers, which may break the layout.
 // Numbers, also for kind and verdict: any number in a field has to meet a refusal.
 #[repr(C)]

@@ -1,7 +1,7 @@
-ghost use Rattle.std.specs.Prelude.{◌≡◌, ◌-◌, ◌<◌, ◌≤◌, MatchOption};
+ghost use Rattle.std.specs.Prelude.{◌≡◌, ◌-◌};
 ghost use Rattle.record.specs.Packed.{Unpacks};
-ghost use Rattle.record.specs.Tapes.{places, place};
-ghost use Rattle.record.specs.Reads.{Begins, Reads};
+ghost use Rattle.record.specs.Tapes.{places};
+ghost use Rattle.record.specs.Reads.{IsPart, Begins, Reads};
 ghost use Rattle.std.specs.Iterator.{at_most};
 ghost use Rattle.std.specs.Simd.{first_chunks};
 
@@ -35,7 +35,7 @@ fn parts(tape: &[u8]) -> &[[u8; SIZE]]
 /// The 20 bytes at a position of a tape, if there are so many. What is too short for a record at
 /// the end of the tape has no position.
 pub fn part_at(tape: &[u8], position: usize) -> Option<&[u8; SIZE]>
-    ensures { MatchOption result (places tape.now ≤ position) (λ b. (position < places tape.now) × (b.now ≡ place position tape.now)) }
+    ensures { IsPart tape.now position result }
 {
     parts(tape).get(position)
 }

@@ -3,8 +3,8 @@
 --   refused g p      — the refusal on the ground g at the place p
 --   text r           — how the refusal r is printed
 --   Answer           — what a call answers that hands nothing back: a grant or a refusal
---   unless t g p a   — refused on the ground g at the place p unless the test t passes; then the answer a
---   and_then a b     — the answer b where a is a grant, else a's refusal, as `?` has it
+--   unless t g p a   — refused on the ground g at the place p unless the test t passes; then the result a
+--   and_then a b     — the result b where a is a grant, else a's refusal, as `?` has it
 use Rattle.std.specs.Prelude.{ℕ, Bool, cond, List, ◌++◌, Ok, Err, codes, decimal, Result}
 use Rattle.refusal.specs.declared.Ground.{Ground}
 use Rattle.refusal.specs.declared.Ground.TheVariants.{BufferLength, Layout, FaultBound, ForeignMask, RegisterNotEmpty, ReplicaNumber, Honesty, ArgumentRange, Mode, NotLeader, SlotOrView, Barred, Picks, BaseNotCertified, StatementsMissing, ViewStartMissing, SlotsExhausted, RegisterFull}
@@ -39,9 +39,9 @@ text r = codes "refused on ground " ++ (decimal (ground_number r.ground) ++ (cod
 abbrev pub Answer : Type 0
 Answer = Result (Unit {0}) Refusal
 
-abbrev pub unless : Bool → Ground → ℕ → Answer → Answer
+abbrev pub unless : {A : Type 0} → Bool → Ground → ℕ → Result A Refusal → Result A Refusal
 unless t g p a = cond t a (Err (refused g p))
 
-abbrev pub and_then : Answer → Answer → Answer
+abbrev pub and_then : {A : Type 0} → Answer → Result A Refusal → Result A Refusal
 and_then (Ok _) b = b
 and_then (Err e) b = Err e

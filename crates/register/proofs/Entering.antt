@@ -5,7 +5,7 @@ use Rattle.std.proofs.lemmas.Bool.Decides.{nat_tests}
 use Rattle.refusal.specs.declared.Refusal.{Refusal}
 use Rattle.record.specs.Layout.{keeps_layout}
 use Rattle.record.specs.declared.Record.{Record}
-use Rattle.register.specs.Sets.{Set, added, adds, entering, Entered}
+use Rattle.register.specs.Sets.{Set, added, adds, entering, EnteredInto}
 
 module _ (s : Set) (n : ℕ) (r : Record) where
   -- a record can be added only where a place is free
@@ -21,7 +21,7 @@ module _ (s : Set) (n : ℕ) (r : Record) where
     adds_nothing answer refused = grind (arith, nat_tests)
 
   module _ (a : Result (Unit {0}) Refusal) (s' : Set) (n' : ℕ) where
-    pub entered_adding : adds s n r ≡ true → a ≡ entering s n r → s' ≡ added s r → n' + 1 ≡ n → Entered s n r a s' n'
+    pub entered_adding : adds s n r ≡ true → a ≡ entering s n r → s' ≡ added s r → n' + 1 ≡ n → EnteredInto s n r a s' n'
     entered_adding h answer held free =
         record {
           answer = answer;
@@ -29,7 +29,7 @@ module _ (s : Set) (n : ℕ) (r : Record) where
           free = let less : n' ≡ n - 1 = omega arith in less ∙ sym (cond-true (adds s n r) (n - 1) n h);
         }
 
-    pub entered_keeping : adds s n r ≡ false → a ≡ entering s n r → s' ≡ s → n' ≡ n → Entered s n r a s' n'
+    pub entered_keeping : adds s n r ≡ false → a ≡ entering s n r → s' ≡ s → n' ≡ n → EnteredInto s n r a s' n'
     entered_keeping h answer held free =
         record {
           answer = answer;
@@ -37,7 +37,7 @@ module _ (s : Set) (n : ℕ) (r : Record) where
           free = free ∙ sym (cond-false (adds s n r) (n - 1) n h);
         }
 
-    module _ (e : Entered s n r a s' n') where
+    module _ (e : EnteredInto s n r a s' n') where
       pub what_is_added : adds s n r ≡ true → (s' ≡ added s r) × (n' + 1 ≡ n)
       what_is_added h =
           let less = e.free ∙ cond-true (adds s n r) (n - 1) n h in
@@ -49,5 +49,5 @@ module _ (s : Set) (n : ℕ) (r : Record) where
 
 -- a statement that is no member is added where a place is free
 module _ (s : Set) (n : ℕ) (r : Record) (kept : keeps_layout r ≡ true) (absent : s r ≡ false) (room : 0 < n) where
-  pub entered_new : (s' : Set) (n' : ℕ) → s' ≡ added s r → n' + 1 ≡ n → Entered s n r (Ok tt) s' n'
+  pub entered_new : (s' : Set) (n' : ℕ) → s' ≡ added s r → n' + 1 ≡ n → EnteredInto s n r (Ok tt) s' n'
   entered_new s' n' held free = entered_adding s n r (Ok tt) s' n' (adds_new s n r kept absent room) (grind (arith, nat_tests)) held free

@@ -1,3 +1,3 @@
 pub mod Entering
 pub mod Stored
-pub mod Inserting
+pub mod Grants

@@ -1,17 +1,15 @@
--- What a register means, a set of statements, a number of free places and a memory, and what entering one does.
---   Set                          — a set of records, as a test
---   nothing                      — the empty set
---   Emptiness s b                — b tells whether s is empty: it is true if s has no member, and false if it has one
---   added s r                    — s with r in it
---   adds s n r                   — entering r adds it: r keeps the layout, is no member, and of n free places there is one
---   entering s n r               — what entering r answers
---   held_after s n r             — the set afterwards
---   free_after s n r             — the number of free places afterwards
---   adding s n r           — r as a list, where entering r adds it, else the empty list
---   memory_after stores m s n r  — the memory afterwards: where r is added, what stores makes of the memory m, else m
---   Entered s n r a s' n'        — r was entered: that set and number became s' and n', and the answer was a
+-- What a register means, a set of statements and a number of free places, and what entering one does.
+--   Set                   — a set of records, as a test
+--   nothing               — the empty set
+--   Emptiness s b         — b tells whether s is empty: it is true if s has no member, and false if it has one
+--   added s r             — s with r in it
+--   adds s n r            — entering r adds it: r keeps the layout, is no member, and of n free places there is one
+--   entering s n r        — what entering r answers
+--   held_after s n r      — the set afterwards
+--   free_after s n r      — the number of free places afterwards
+--   addition s n r        — r as a list, where entering r adds it, else the empty list
+--   EnteredInto s n r a s' n' — r was entered: the answer was a, and set and number became s' and n'
 use Rattle.std.specs.Prelude.{◌≡◌, ℕ, ◌-◌, Bool, true, false, cond, not, ◌&&◌, ◌||◌, List, [], ◌∷◌, Ok, Err, Result, ◌==◌}
-use Rattle.std.specs.List.{fold}
 use Rattle.refusal.specs.Grounds.{refused}
 use Rattle.refusal.specs.declared.Ground.TheVariants.{Layout, RegisterFull}
 use Rattle.refusal.specs.declared.Refusal.{Refusal}
@@ -48,13 +46,10 @@ held_after s n r = cond (adds s n r) (added s r) s
 abbrev pub free_after : Set → ℕ → Record → ℕ
 free_after s n r = cond (adds s n r) (n - 1) n
 
-abbrev pub adding : Set → ℕ → Record → List Record
-adding s n r = cond (adds s n r) (r ∷ []) []
+abbrev pub addition : Set → ℕ → Record → List Record
+addition s n r = cond (adds s n r) (r ∷ []) []
 
-abbrev pub memory_after : {M : Type 0} → (M → Record → M) → M → Set → ℕ → Record → M
-memory_after stores m s n r = fold stores m (adding s n r)
-
-pub record Entered (s : Set) (n : ℕ) (r : Record) (a : Result (Unit {0}) Refusal) (s' : Set) (n' : ℕ) : Type 0 where
+pub record EnteredInto (s : Set) (n : ℕ) (r : Record) (a : Result (Unit {0}) Refusal) (s' : Set) (n' : ℕ) : Type 0 where
   pub answer : a ≡ entering s n r
   pub held : s' ≡ held_after s n r
   pub free : n' ≡ free_after s n r

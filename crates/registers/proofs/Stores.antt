@@ -4,14 +4,14 @@ use Rattle.record.specs.Layout.{keeps_layout}
 use Rattle.record.specs.Same.{same}
 use Rattle.record.specs.declared.Record.{Record}
 use Rattle.record.proofs.Same.{same_refl, same_decides}
-use Rattle.register.specs.Sets.{Entered}
+use Rattle.register.specs.Sets.{EnteredInto}
 use Rattle.register.specs.Stored.{stored}
 use Rattle.register.proofs.Entering.{entered_new}
 use Rattle.register.proofs.Stored.{Holds, HoldsNone, stored_push}
 use Rattle.registers.specs.Places.{is_there}
 
 -- r, which is no member of ys, is appended
-pub appending_enters : (ys zs : List Record) (n k : ℕ) (r : Record) → keeps_layout r ≡ true → stored is_there ys r ≡ false → 0 < n → zs ≡ ys ++ r ∷ [] → k + 1 ≡ n → Entered (stored is_there ys) n r (Ok tt) (stored is_there zs) k
+pub appending_enters : (ys zs : List Record) (n k : ℕ) (r : Record) → keeps_layout r ≡ true → stored is_there ys r ≡ false → 0 < n → zs ≡ ys ++ r ∷ [] → k + 1 ≡ n → EnteredInto (stored is_there ys) n r (Ok tt) (stored is_there zs) k
 appending_enters ys zs n k r kept absent room more less =
     entered_new (stored is_there ys) n r kept absent room _ _ (ap (stored is_there) more ∙ stored_push is_there ys r r kept (λ x _. refl)) less
 

@@ -1,3 +1,4 @@
 pub mod Places
+pub mod Stores
 pub mod Tables
 pub mod Sheets

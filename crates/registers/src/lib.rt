@@ -2,6 +2,7 @@
 //! 16 of its own, over any register.
 #![tactic(auto)]
 
+mod entering;
 mod sheet;
 mod store;
 mod table;

@@ -1,9 +1,7 @@
-ghost use Rattle.std.specs.Prelude.{◌≡◌, ◌+◌, ◌-◌, ◌∷◌, [], ◌++◌, false};
-ghost use Rattle.arrayvec.specs.ArrayVec.{array_vec_len};
-ghost use Rattle.register.specs.Sets.{adds, memory_after, Entered, nothing};
-ghost use Rattle.registers.specs.Sheets.{SheetMemory, sheet_held, sheet_free, sheet_memory, sheet_stores, together, BelowFirst};
+ghost use Rattle.std.specs.Prelude.{◌≡◌, ◌+◌, ◌∷◌, [], ◌++◌};
 
-use crate::store::{Store, enter, holds, holds_nothing};
+use crate::entering::enter;
+use crate::store::{Store, holds, holds_nothing};
 use arrayvec::ArrayVec;
 use record::Record;
 use refusal::Refusal;
@@ -12,6 +10,8 @@ use register::Register;
 const PLACES: usize = 16;
 
 impl Store for ArrayVec<Record, PLACES> {
+    ghost use Rattle.registers.specs.Sheets.{sheet_free};
+
     ghost records = { λ t. t.items };
 
     ghost room = { sheet_free };
@@ -39,10 +39,13 @@ pub struct SpareSheet<R> {
 }
 
 impl<R: Register> SpareSheet<R> {
+    ghost use Rattle.register.specs.Sets.{nothing};
+    ghost use Rattle.registers.specs.Sheets.{sheet_held, spare_held, spare_free};
+
     /// Lays an empty sheet over a register: the set stays, and there are 16 free places more.
     pub fn new(below: R) -> SpareSheet<R>
-        ensures held { together (R.held result.below) (sheet_held result.sheet) ≡ R.held below }
-        ensures free { R.free result.below + sheet_free result.sheet ≡ R.free below + 16 }
+        ensures held { spare_held R.Register result ≡ R.held below }
+        ensures free { spare_free R.Register result ≡ R.free below + 16 }
         ensures below { result.below ≡ below }
         ensures sheet { sheet_held result.sheet ≡ nothing }
     {
@@ -54,15 +57,19 @@ impl<R: Register> SpareSheet<R> {
 }
 
 impl<R: Register> Register for SpareSheet<R> {
-    ghost held = { λ s. together (R.held s.below) (sheet_held s.sheet) };
+    ghost use Rattle.std.specs.List.{fold};
+    ghost use Rattle.register.specs.Sets.{addition, EnteredInto};
+    ghost use Rattle.registers.specs.Sheets.{SheetMemory, spare_held, spare_free, spare_memory, spare_stores, BelowFirst};
 
-    ghost free = { λ s. R.free s.below + sheet_free s.sheet };
+    ghost held = { spare_held R.Register };
+
+    ghost free = { spare_free R.Register };
 
     ghost Memory = { SheetMemory R.Memory };
 
-    ghost memory = { λ s. sheet_memory (R.memory s.below) (R.free s.below) s.sheet };
+    ghost memory = { spare_memory R.Register };
 
-    ghost stores = { sheet_stores R.stores };
+    ghost stores = { spare_stores R.Register };
 
     fn ask(&self, r: &Record) -> bool {
         self.below.ask(r) || holds(self.sheet.records(), r)
@@ -74,10 +81,18 @@ impl<R: Register> Register for SpareSheet<R> {
 
     /// A new statement is entered below. The sheet takes it only if the register below refuses it.
     fn enter(&mut self, r: &Record) -> Result<(), Refusal>
-        ensures entered { Entered (together (R.held self.old.below) (sheet_held self.old.sheet)) (R.free self.old.below + sheet_free self.old.sheet) r.now result (together (R.held self.new.below) (sheet_held self.new.sheet)) (R.free self.new.below + sheet_free self.new.sheet) }
-        ensures memory { sheet_memory (R.memory self.new.below) (R.free self.new.below) self.new.sheet ≡ memory_after (sheet_stores R.stores) (sheet_memory (R.memory self.old.below) (R.free self.old.below) self.old.sheet) (together (R.held self.old.below) (sheet_held self.old.sheet)) (R.free self.old.below + sheet_free self.old.sheet) r.now }
-        ensures unchanged { adds (together (R.held self.old.below) (sheet_held self.old.sheet)) (R.free self.old.below + sheet_free self.old.sheet) r.now ≡ false → self.new ≡ self.old }
-        ensures order { BelowFirst (R.held self.old.below) (R.free self.old.below) self.old.sheet r.now (R.held self.new.below) (R.free self.new.below) self.new.sheet }
+        ensures entered {
+            let held = spare_held R.Register in
+            let free = spare_free R.Register in
+            EnteredInto (held self.old) (free self.old) r.now result (held self.new) (free self.new)
+        }
+        ensures memory {
+            let held = spare_held R.Register self.old in
+            let added = addition held (spare_free R.Register self.old) r.now in
+            spare_memory R.Register self.new
+            ≡ fold (spare_stores R.Register) (spare_memory R.Register self.old) added
+        }
+        ensures order { BelowFirst R.Register self.old r.now self.new }
     {
         if holds(self.sheet.records(), r) {
             return Ok(());

@@ -1,12 +1,11 @@
-//! Stores of records, and entering a statement into one.
-ghost use Rattle.std.specs.Prelude.{◌≡◌, ℕ, ◌+◌, ◌<◌, List, [], ◌∷◌, ◌++◌, ◌==◌, ◌&&◌, MatchBool};
+//! Stores of records.
+ghost use Rattle.std.specs.Prelude.{◌≡◌, ℕ, ◌+◌, ◌<◌, List, [], ◌∷◌, ◌++◌, ◌==◌};
 ghost use Rattle.record.specs.declared.Record.{Record};
-ghost use Rattle.register.specs.Sets.{Emptiness, Entered, adds};
+ghost use Rattle.register.specs.Sets.{Emptiness};
 ghost use Rattle.register.specs.Stored.{stored};
-ghost use Rattle.registers.specs.Places.{is_there};
+ghost use Rattle.registers.specs.Places.{is_there, look_alike};
 
 use record::Record;
-use refusal::{Ground, Refusal};
 
 // A store of records, in the order in which they came, with room for some more.
 pub(crate) trait Store {
@@ -36,7 +35,7 @@ pub(crate) trait Store {
 // Whether two records agree in signer, slot and result. Most differ there, which is seen at once:
 // there is no branch between the three.
 fn look_alike(a: &Record, b: &Record) -> bool
-    ensures { result ≡ (a.now.signer == b.now.signer && a.now.slot == b.now.slot && a.now.result == b.now.result) }
+    ensures { result ≡ look_alike a.now b.now }
 {
     (a.signer == b.signer) & (a.slot == b.slot) & (a.result == b.result)
 }
@@ -57,22 +56,4 @@ pub(crate) fn holds_nothing(records: &[Record]) -> bool
     ensures { Emptiness (stored is_there records.now) result }
 {
     !records.iter().any(|record| record.keeps_layout())
-}
-
-// Enters `r`: appends it where it is a new statement and there is room.
-pub(crate) fn enter<S: Store>(store: &mut S, r: &Record) -> Result<(), Refusal>
-    ensures entered { Entered (stored is_there (S.records store.old)) (S.room store.old) r.now result (stored is_there (S.records store.new)) (S.room store.new) }
-    ensures store { MatchBool (adds (stored is_there (S.records store.old)) (S.room store.old) r.now) (S.Appends store.old r.now store.new) (store.new ≡ store.old) }
-{
-    if !r.keeps_layout() {
-        return Err(Ground::Layout.into());
-    }
-    if holds(store.records(), r) {
-        return Ok(());
-    }
-    if store.is_full() {
-        return Err(Ground::RegisterFull.into());
-    }
-    store.append(*r);
-    Ok(())
 }

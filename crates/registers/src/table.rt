@@ -1,6 +1,7 @@
 ghost use Rattle.std.specs.Prelude.{◌≡◌, ◌≤◌, length};
 
-use crate::store::{Store, enter, holds, holds_nothing};
+use crate::entering::enter;
+use crate::store::{Store, holds, holds_nothing};
 use record::Record;
 use refusal::Refusal;
 use register::Register;

@@ -2,7 +2,7 @@
 --   answer_number why    — the answer where there is no figure, for the reason why
 --   unanswered_text why  — how the reason why is printed
 --   answer_of r          — the answer for the result r: its figure, or the number of the reason why there is none
---   outcome_of n         — the figure that the answer n is, or the reason why it is none
+--   figure_of n          — the figure that the answer n is, or the reason why it is none
 use Rattle.std.specs.Prelude.{ℕ, cond, ◌==◌, List, Result, Ok, Err, codes}
 use Rattle.service.specs.Operations.{out_of_range, malformed}
 use Rattle.service.specs.declared.answer.Unanswered.{Unanswered}
@@ -20,5 +20,5 @@ abbrev pub answer_of : Result ℕ Unanswered → ℕ
 answer_of (Ok n) = n
 answer_of (Err why) = answer_number why
 
-abbrev pub outcome_of : ℕ → Result ℕ Unanswered
-outcome_of n = cond (n == out_of_range) (Err OutOfRange) (cond (n == malformed) (Err Malformed) (Ok n))
+abbrev pub figure_of : ℕ → Result ℕ Unanswered
+figure_of n = cond (n == out_of_range) (Err OutOfRange) (cond (n == malformed) (Err Malformed) (Ok n))

@@ -1,7 +1,7 @@
 //! The answers of 64 bits, and the errors that they and the operations are made from.
 ghost use Rattle.std.specs.Prelude.{◌≡◌, Some, codes};
 ghost use Rattle.service.specs.declared.answer.Unanswered.TheVariants.{Malformed};
-ghost use Rattle.service.specs.Answers.{answer_number, answer_of, outcome_of, unanswered_text};
+ghost use Rattle.service.specs.Answers.{answer_number, answer_of, figure_of, unanswered_text};
 
 use std::error::Error;
 use std::fmt;
@@ -87,8 +87,8 @@ impl From<UnknownOperation> for Unanswered {
 }
 
 /// The figure that an answer is, or why it is none.
-pub fn outcome(answer: u64) -> Result<u64, Unanswered>
-    ensures value { result ≡ outcome_of answer }
+pub fn figure(answer: u64) -> Result<u64, Unanswered>
+    ensures value { result ≡ figure_of answer }
     ensures back { answer_of result ≡ answer }
 {
     match answer {

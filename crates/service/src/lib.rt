@@ -1,11 +1,12 @@
 //! What a service is: a state that operations of 64 bits change, with an answer of 64 bits to each.
 #![tactic(auto)]
 
-ghost use Rattle.std.specs.Prelude.{◌≡◌, ℕ};
+ghost use Rattle.std.specs.Prelude.{◌≡◌, ◌<◌, ◌^◌, ℕ, List};
+ghost use Rattle.service.specs.Operations.{after};
 
 mod answer;
 
-pub use answer::{MALFORMED, OUT_OF_RANGE, Unanswered, Unencodable, UnknownOperation, outcome};
+pub use answer::{MALFORMED, OUT_OF_RANGE, Unanswered, Unencodable, UnknownOperation, figure};
 
 /// A service. Its meaning is a state: an operation and the state fix the answer and the next state.
 pub trait Service {
@@ -34,4 +35,7 @@ pub trait Service {
     fn clear(&mut self)
         ensures freshens { state self.new ≡ fresh (state self.old) }
         ensures same_kind { fresh (state self.new) ≡ fresh (state self.old) };
+
+    // Whatever operations it was fed since it was cleared, it answers 64 bits.
+    ghost answers_64_bits: { (s : State) (ops : List ℕ) (op : ℕ) → answer (after next (fresh s) ops) op < 2 ^ 64 };
 }

@@ -19,7 +19,7 @@ use Rattle.record.specs.declared.Record.{Record}
 use Rattle.record.proofs.Chunks.{chunks_are}
 use Rattle.record.proofs.Packs.{length_packed, packs_alone}
 use Rattle.record.proofs.Same.{same_decides}
-use Rattle.register.specs.Sets.{adds, memory_after, Entered}
+use Rattle.register.specs.Sets.{adds, addition, EnteredInto}
 use Rattle.register.specs.Stored.{stored}
 use Rattle.register.proofs.Entering.{adds_new, entered_new}
 use Rattle.register.proofs.Stored.{Holds, HoldsNone, stored_push}
@@ -94,12 +94,12 @@ module _ (n : ℕ) (b : List ℕ) (r : Record) (room-left : n < places b) (kept 
 
   -- the tape after that is b'
   module _ (b' : List ℕ) (put : b' ≡ replaced n b (packed r)) where
-    pub put_enters : Entered (on_tape n b) (room_on n b) r (Ok tt) (on_tape (n + 1) b') (room_on (n + 1) b')
+    pub put_enters : EnteredInto (on_tape n b) (room_on n b) r (Ok tt) (on_tape (n + 1) b') (room_on (n + 1) b')
     put_enters =
         let held = ap (on_tape (n + 1)) put ∙ ap (stored has_bytes) (parts_replaced (packed r) (length_packed r) n b room-left) ∙ stored_push has_bytes (used_parts n b) (packed r) r kept holds_r in
         entered_new (on_tape n b) (room_on n b) r kept absent (omega arith) _ _ held (omega (arith, same_room, ap length put))
 
-    pub put_is_stored : (lent : GName) → lent_bytes lent b' (n + 1) ≡ memory_after tape_stores (lent_bytes lent b n) (on_tape n b) (room_on n b) r
+    pub put_is_stored : (lent : GName) → lent_bytes lent b' (n + 1) ≡ fold tape_stores (lent_bytes lent b n) (addition (on_tape n b) (room_on n b) r)
     put_is_stored lent = rw (put, is_added)
 
 -- the statements rs are stored, one after the other, behind the bytes p

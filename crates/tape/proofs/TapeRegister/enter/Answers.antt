@@ -3,7 +3,7 @@ use Rattle.record.specs.Layout.{keeps_layout}
 use Rattle.record.specs.Packed.{packed}
 use Rattle.record.specs.Tapes.{places}
 use Rattle.tape.specs.Tapes.{tape_held}
-use Rattle.tape.proofs.Places.{put_replaces, is_added, put_enters, put_is_stored}
+use Rattle.tape.proofs.Places.{put_replaces, put_enters, put_is_stored}
 use Rattle.tape.proofs.TapeRegister.enter.Goals as goal
 
 pub returns : goal.returns
@@ -18,5 +18,4 @@ returns c =
     record {
       entered = put_enters t.used t.bytes.now r room kept absent _ written;
       memory = put_is_stored t.used t.bytes.now r room kept absent _ written t.bytes.ghost_name;
-      unchanged = λ none. cc (is_added t.used t.bytes.now r room kept absent);
     }

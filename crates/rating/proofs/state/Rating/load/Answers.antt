@@ -1,7 +1,7 @@
 use Rattle.std.proofs.Common.{rules, subst, append-nil}
 use Rattle.rating.specs.Curves.{numbered}
 use Rattle.rating.proofs.Loading.{loads}
-use Rattle.rating.proofs.table.Rating.load.Goals as goal
+use Rattle.rating.proofs.state.Rating.load.Goals as goal
 
 pub push-requires : goal.push-requires
 push-requires c =
