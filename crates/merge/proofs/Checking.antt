@@ -10,7 +10,9 @@ use Rattle.refusal.specs.declared.Ground.{Ground}
 use Rattle.refusal.specs.declared.Ground.TheVariants.{Picks, BaseNotCertified, StatementsMissing}
 use Rattle.record.specs.declared.Record.{Record}
 use Rattle.register.specs.Sets.{Set}
+use Rattle.quorum.specs.declared.Membership.{Membership}
 use Rattle.merge.specs.Merges.{top}
+use Rattle.merge.specs.declared.view_change.ViewChange.{ViewChange}
 use Rattle.merge.proofs.Prepares.{prepared_decides}
 use Rattle.merge.specs.Checks.{first_fault, signs, fits, prepared, backed, certified, pick_grounds, base_grounds, backing_grounds, merge_grounds, Certified, signers, Picked, Checked}
 
@@ -36,18 +38,18 @@ different_from (p ∷ ps) h =
       different_from ps (λ i d l. (parts i d l).1),
     )
 
-fresh : (n m v t : ℕ) (before : List Record) (p : Record) → fits n m v t before p ≡ true → signs before p.signer ≡ false
-fresh n m v t before p h = grind (arith, nat_tests)
+fresh : (v : ViewChange) (t : ℕ) (before : List Record) (p : Record) → fits v t before p ≡ true → signs before p.signer ≡ false
+fresh v t before p h = grind (arith, nat_tests)
 
-module _ (s : Set) (n q : ℕ) where
-  certified_from : (t : ℕ) (b : ℕ × ℕ) → certified s n q t b ≡ true → Certified s n q t b
-  certified_from t b h = elim (cases_eq t 0) [
-    | inl e ↦ inl (grind (arith, nat_tests))
-    | inr e ↦ inr (grind (arith, nat_tests))
-  ]
+certified_from : (s : Set) (m : Membership) (t : ℕ) (b : ℕ × ℕ) → certified s m t b ≡ true → Certified s m t b
+certified_from s m t b h = elim (cases_eq t 0) [
+  | inl e ↦ inl (grind (arith, nat_tests))
+  | inr e ↦ inr (grind (arith, nat_tests))
+]
 
-  picked_from : (m v t : ℕ) (before : List Record) (p : Record) → fits n m v t before p ≡ true → backed s n q t p ≡ true → Picked s n q m v t p
-  picked_from m v t before p f b =
+module _ (s : Set) (v : ViewChange) where
+  picked_from : (t : ℕ) (before : List Record) (p : Record) → fits v t before p ≡ true → backed s v.members t p ≡ true → Picked s v t p
+  picked_from t before p f b =
       record {
         kind = grind (arith, nat_tests);
         signer = grind (arith, nat_tests);
@@ -55,21 +57,21 @@ module _ (s : Set) (n q : ℕ) where
         in_register = grind (arith, nat_tests);
         reach = λ e. grind (arith, nat_tests);
         bits = λ e l lt h.
-            let all : prepared s n q t p.word ≡ true = grind (arith, nat_tests) in
-            (prepared_decides s n q t p.word 64).0 all l lt h;
+            let all : prepared s v.members t p.word ≡ true = grind (arith, nat_tests) in
+            (prepared_decides s v.members t p.word 64).0 all l lt h;
       }
 
-  pub checked_from : (m v : ℕ) (ps : List Record) (b : ℕ × ℕ) → is_ok (merge_grounds s n q m v ps b) ≡ true → Checked s n q m v ps b
-  checked_from m v ps b h =
+  pub checked_from : (ps : List Record) (b : ℕ × ℕ) → is_ok (merge_grounds s v ps b) ≡ true → Checked s v ps b
+  checked_from ps b h =
       let t = top ps in
-      let a = both_granted (pick_grounds n q m v ps) _ h in
-      let c = both_granted (base_grounds s n q t b) (backing_grounds s n q t ps) a.1 in
-      let d = unless_granted (eqb (length ps) q) Picks 0 _ a.0 in
-      let fit = each_passes Picks (λ k p. fits n m v t (take k ps) p) ps d.1 in
-      let back = each_passes StatementsMissing (λ _ p. backed s n q t p) ps c.1 in
+      let a = both_granted (pick_grounds v ps) _ h in
+      let c = both_granted (base_grounds s v.members t b) (backing_grounds s v.members t ps) a.1 in
+      let d = unless_granted (eqb (length ps) v.members.quorum) Picks 0 _ a.0 in
+      let fit = each_passes Picks (λ k p. fits v t (take k ps) p) ps d.1 in
+      let back = each_passes StatementsMissing (λ _ p. backed s v.members t p) ps c.1 in
       record {
-        number = eqb-true (length ps) q d.0;
-        different = AllPairs-from_IsDistinct (λ i j. (eqb-true i j, eq-eqb i j)) (signers ps) (different_from ps (λ i e l. fresh n m v t (take i ps) (get_or ps i e) (fit i e l)));
-        each = all_from_every _ ps (λ i e _ l. picked_from m v t (take i ps) (get_or ps i e) (fit i e l) (back i e l));
-        base = certified_from t b (unless_granted (certified s n q t b) BaseNotCertified 0 (Ok tt) c.0).0;
+        number = eqb-true (length ps) v.members.quorum d.0;
+        different = AllPairs-from_IsDistinct (λ i j. (eqb-true i j, eq-eqb i j)) (signers ps) (different_from ps (λ i e l. fresh v t (take i ps) (get_or ps i e) (fit i e l)));
+        each = all_from_every _ ps (λ i e _ l. picked_from t (take i ps) (get_or ps i e) (fit i e l) (back i e l));
+        base = certified_from s v.members t b (unless_granted (certified s v.members t b) BaseNotCertified 0 (Ok tt) c.0).0;
       }

@@ -8,26 +8,27 @@ use Rattle.std.specs.List.{list_all, range_with_len}
 use Rattle.record.specs.Statements.{prepare_by}
 use Rattle.register.specs.Sets.{Set}
 use Rattle.quorum.specs.Quorums.{quorum, Quorum}
+use Rattle.quorum.specs.declared.Membership.{Membership}
 use Rattle.replica.specs.Words.{bit}
 use Rattle.merge.specs.Checks.{prepared_below}
 
-module _ (s : Set) (n q t w : ℕ) where
-  pub prepared_decides : (k : ℕ) → Decides (prepared_below s n q t w k) ((l : ℕ) → l < k → bit w l ≡ true → Quorum s n q (prepare_by 0 t l 1))
+module _ (s : Set) (m : Membership) (t w : ℕ) where
+  pub prepared_decides : (k : ℕ) → Decides (prepared_below s m t w k) ((l : ℕ) → l < k → bit w l ≡ true → Quorum s m (prepare_by 0 t l 1))
   unfolding prepared_below
   prepared_decides k =
-      Decides-below_and (λ l. not (bit w l) || quorum s n q (prepare_by 0 t l 1))
-      (λ l. bit w l ≡ true → Quorum s n q (prepare_by 0 t l 1)) (prepared_below s n q t w)
+      Decides-below_and (λ l. not (bit w l) || quorum s m (prepare_by 0 t l 1))
+      (λ l. bit w l ≡ true → Quorum s m (prepare_by 0 t l 1)) (prepared_below s m t w)
       (λ l. (λ e f. grind (arith, nat_tests), λ e. grind (arith, nat_tests))) refl (λ _. refl) k
 
   -- the same, of the slots in a list
-  pub prepared_all : (k : ℕ) → list_all (λ l. not (bit w l) || quorum s n q (prepare_by 0 t l 1)) (range_with_len 0 k) ≡ prepared_below s n q t w k
+  pub prepared_all : (k : ℕ) → list_all (λ l. not (bit w l) || quorum s m (prepare_by 0 t l 1)) (range_with_len 0 k) ≡ prepared_below s m t w k
   unfolding prepared_below
   prepared_all zero = refl
   prepared_all (suc k) =
-      let p : ℕ → Bool = λ l. not (bit w l) || quorum s n q (prepare_by 0 t l 1) in
+      let p : ℕ → Bool = λ l. not (bit w l) || quorum s m (prepare_by 0 t l 1) in
       let more : range_with_len 0 (k + 1) ≡ range_with_len 0 k ++ k ∷ [] =
       simp map-id at (map-range_with_len_more (λ (l : ℕ). l) 0 k k (omega arith)) in
-      ap (λ (m : ℕ). list_all p (range_with_len 0 m)) (sym (add-one k))
+      ap (λ (j : ℕ). list_all p (range_with_len 0 j)) (sym (add-one k))
       ∙ ap (list_all p) more
       ∙ list_all-append p (range_with_len 0 k) (k ∷ [])
       ∙ ap (λ (b : Bool). list_all p (range_with_len 0 k) && b) (and-true (p k))

@@ -12,7 +12,7 @@ use register::Register;
 // Whether the base is certified for the view: 0 and 0 for view 0, else a quorum said ENTRY with it.
 // `reached` asks for each signer, whichever the statement has.
 fn certified<R: Register>(register: &R, members: Membership, view: u8, base: (u8, u64)) -> bool
-    ensures { result ≡ certified (R.held register.now) members.replicas members.quorum view base }
+    ensures { result ≡ certified (R.held register.now) members view base }
 {
     if view == 0 {
         base == (0, 0)
@@ -28,7 +28,7 @@ pub(crate) fn check_base<R: Register>(
     view: u8,
     base: (u8, u64),
 ) -> Result<(), Refusal>
-    ensures { result ≡ base_grounds (R.held register.now) members.replicas members.quorum view base }
+    ensures { result ≡ base_grounds (R.held register.now) members view base }
 {
     if !certified(register, members, view, base) {
         return Err(Ground::BaseNotCertified.into());

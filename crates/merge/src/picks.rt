@@ -16,7 +16,8 @@ pub(crate) fn first_fault<F: Fn(&[Record], &Record) -> bool>(
     passes: F,
 ) -> Result<(), Refusal>
     requires { F.IsAlwaysCallable passes }
-    ensures { (t : List Record → Record → Bool) → Computes (F.post passes) t → result ≡ first_fault why (λ k p. t (take k picks.now) p) 0 picks.now }
+    ensures { (t : List Record → Record → Bool) → Computes (F.post passes) t
+        → result ≡ first_fault why (λ k p. t (take k picks.now) p) 0 picks.now }
 {
     for (place, pick) in picks.iter().enumerate() {
         if !passes(&picks[..place], pick) {

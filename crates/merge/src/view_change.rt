@@ -1,6 +1,8 @@
 //! A view change: checking its picks over a register, and merging them.
-ghost use Rattle.std.specs.Prelude.{◌≡◌, true, is_ok};
-ghost use Rattle.merge.specs.Checks.{fits, pick_grounds, merge_grounds, merging, Checked};
+ghost use Rattle.std.specs.Prelude.{◌≡◌, Ok, true, is_ok};
+ghost use Rattle.refusal.specs.Grounds.{and_then};
+ghost use Rattle.merge.specs.Merges.{merge};
+ghost use Rattle.merge.specs.Checks.{fits, pick_grounds, merge_grounds, Checked};
 
 use crate::backing::check_backing;
 use crate::base::check_base;
@@ -26,7 +28,7 @@ impl ViewChange {
     // Whether a pick fits after those before it: it is a VIEW-CHANGE for the target by a replica that
     // signs none of them, and, if its last is `top`, its reach is at most the stamped slots.
     fn fits(self, top: u8, before: &[Record], pick: &Record) -> bool
-        ensures { result ≡ fits self.members.replicas self.stamped self.target top before.now pick.now }
+        ensures { result ≡ fits self top before.now pick.now }
     {
         pick.kind == u8::from(Kind::ViewChange)
             && pick.signer < self.members.replicas
@@ -37,7 +39,7 @@ impl ViewChange {
 
     // Refuses unless there is a quorum of picks; then refuses the first that does not fit, at its place.
     fn check_picks(self, picks: &[Record]) -> Result<(), Refusal>
-        ensures { result ≡ pick_grounds self.members.replicas self.members.quorum self.stamped self.target picks.now }
+        ensures { result ≡ pick_grounds self picks.now }
     {
         if picks.len() != usize::from(self.members.quorum) {
             return Err(Ground::Picks.into());
@@ -57,8 +59,8 @@ impl ViewChange {
         picks: &[Record],
         base: (u8, u64),
     ) -> Result<(), Refusal>
-        ensures grounds { result ≡ merge_grounds (R.held register.now) self.members.replicas self.members.quorum self.stamped self.target picks.now base }
-        ensures meaning { is_ok result ≡ true → Checked (R.held register.now) self.members.replicas self.members.quorum self.stamped self.target picks.now base }
+        ensures grounds { result ≡ merge_grounds (R.held register.now) self picks.now base }
+        ensures meaning { is_ok result ≡ true → Checked (R.held register.now) self picks.now base }
     {
         self.check_picks(picks)?;
         let top = top(picks);
@@ -74,8 +76,9 @@ impl ViewChange {
         picks: &[Record],
         base: (u8, u64),
     ) -> Result<(u8, u64), Refusal>
-        ensures answer { result ≡ merging (R.held register.now) self.members.replicas self.members.quorum self.stamped self.target picks.now base }
-        ensures meaning { is_ok result ≡ true → Checked (R.held register.now) self.members.replicas self.members.quorum self.stamped self.target picks.now base }
+        ensures answer { let grounds = merge_grounds (R.held register.now) self picks.now base in
+            result ≡ and_then grounds (Ok (merge base picks.now)) }
+        ensures meaning { is_ok result ≡ true → Checked (R.held register.now) self picks.now base }
     {
         self.check(register, picks, base)?;
         Ok(merge(picks, base))

@@ -2,8 +2,8 @@
 --   signed_by r i      — the record r with the signer i
 --   said s r i         — replica i said r: the set s has r with the signer i
 --   count n p          — how many numbers below n pass the test p
---   quorum s n q r     — at least q of the replicas below n said r, as a test
---   Quorum s n q r     — the same as a fact
+--   quorum s m r       — a quorum of the membership m said r: at least m.quorum of the replicas below m.replicas; as a test
+--   Quorum s m r       — the same as a fact
 --   Witnesses n q p w  — the first q numbers of w are different, are below n and pass the test p; the others are 0
 --   Finds n q p a      — a is what looking for q numbers below n that pass the test p answers: them, or nothing if there are fewer
 --   IsNext p s t i     — i is the first number of the range s that passes the test p; it is below 16, and the range t is what is left after it
@@ -12,19 +12,10 @@ use Rattle.std.specs.declared.ops.Range.{Range}
 use Rattle.std.specs.Prelude.{◌≡◌, ℕ, zero, suc, ◌+◌, ◌<◌, ◌≤◌, Bool, true, false, cond, List, Some, None, Option, ◌≢◌, nat_le, slice_index}
 use Rattle.record.specs.declared.Record.{Record}
 use Rattle.register.specs.Sets.{Set}
+use Rattle.quorum.specs.declared.Membership.{Membership}
 
 abbrev pub signed_by : Record → ℕ → Record
-signed_by r i =
-    record {
-      kind = r.kind;
-      signer = i;
-      view = r.view;
-      last = r.last;
-      slot = r.slot;
-      verdict = r.verdict;
-      word = r.word;
-      result = r.result;
-    }
+signed_by r i = record r { signer = i }
 
 abbrev pub said : Set → Record → ℕ → Bool
 said s r i = s (signed_by r i)
@@ -33,11 +24,11 @@ unfoldable pub count : ℕ → (ℕ → Bool) → ℕ
 count zero p = 0
 count (suc n) p = count n p + cond (p n) 1 0
 
-abbrev pub quorum : Set → ℕ → ℕ → Record → Bool
-quorum s n q r = nat_le q (count n (said s r))
+abbrev pub quorum : Set → Membership → Record → Bool
+quorum s m r = nat_le m.quorum (count m.replicas (said s r))
 
-abbrev pub Quorum : Set → ℕ → ℕ → Record → Type 0
-Quorum s n q r = q ≤ count n (said s r)
+abbrev pub Quorum : Set → Membership → Record → Type 0
+Quorum s m r = m.quorum ≤ count m.replicas (said s r)
 
 pub record Witnesses (n q : ℕ) (p : ℕ → Bool) (w : List ℕ) : Type 0 where
   pub below : (k : ℕ) → k < q → slice_index w k < n

@@ -4,12 +4,9 @@
 ghost use Rattle.std.specs.Prelude.{◌≡◌, ◌<◌, true};
 ghost use Rattle.quorum.specs.Quorums.{signed_by, said, count, quorum, Finds, FindsNext};
 
-use record::Record;
+use record::{Record, SIGNERS};
 use register::Register;
 use std::ops::Range;
-
-/// The greatest number of signers that a statement can have.
-pub const SIGNERS: usize = 16;
 
 // The statement, said by another signer.
 fn signed_by(statement: &Record, signer: u8) -> Record
@@ -38,7 +35,8 @@ fn numbers(n: u8) -> Range<u8>
 
 // The next replica in the range that said the statement; the range goes on after it.
 fn next_sayer<R: Register>(register: &R, statement: &Record, replicas: &mut Range<u8>) -> Option<u8>
-    ensures { FindsNext (said (R.held register.now) statement.now) replicas.old replicas.new result }
+    ensures { let passes = said (R.held register.now) statement.now in
+        FindsNext passes replicas.old replicas.new result }
 {
     replicas.find(|&replica| said(register, statement, replica))
 }
@@ -68,7 +66,8 @@ impl Membership {
     // An array: 16 bytes are what is promised, and the membership has the number of witnesses.
     #[tactic(auto, using(crate::proofs::Finding::found_few, crate::proofs::Finding::found_enough))]
     pub fn witnesses<R: Register>(self, register: &R, statement: &Record) -> Option<[u8; SIGNERS]>
-        ensures { Finds self.replicas self.quorum (said (R.held register.now) statement.now) result }
+        ensures { let passes = said (R.held register.now) statement.now in
+            Finds self.replicas self.quorum passes result }
     {
         let mut replicas = numbers(self.replicas);
         let mut found = [0; SIGNERS];
@@ -81,7 +80,7 @@ impl Membership {
 
     /// Whether a quorum said the statement.
     pub fn reached<R: Register>(self, register: &R, statement: &Record) -> bool
-        ensures { result ≡ quorum (R.held register.now) self.replicas self.quorum statement.now }
+        ensures { result ≡ quorum (R.held register.now) self statement.now }
     {
         self.witnesses(register, statement).is_some()
     }

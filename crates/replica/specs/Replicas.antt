@@ -1,4 +1,4 @@
--- A replica, and what each step makes of it.
+-- A replica, and what each call makes of it.
 --   initial           — a replica as a bench opens with it: every number is 0, and the mark is clear
 --   reach r           — the greater of r's length and one past its highest sealed bit
 --   longer n          — the length of a line of length n after one more verdict; a line of 64 is full, and stays
@@ -24,64 +24,23 @@ abbrev pub longer : ℕ → ℕ
 longer n = cond (nat_lt n 64) (n + 1) n
 
 abbrev pub delivered : Replica → Replica
-delivered r =
-    record {
-      view = r.view;
-      target = r.target;
-      base = r.base;
-      length = longer r.length;
-      word = r.word;
-      sealed = r.sealed;
-      mark = r.mark;
-    }
+delivered r = record r { length = longer r.length }
 
 abbrev pub committed : Replica → ℕ → Verdict → Replica
-committed r s d =
-    record {
-      view = r.view;
-      target = r.target;
-      base = r.base;
-      length = r.length;
-      word = r.word;
-      sealed = sealed_with r.sealed s d;
-      mark = r.mark;
-    }
+committed r s d = record r { sealed = sealed_with r.sealed s d }
 
 abbrev pub settled : Replica → ℕ → Verdict → Replica
 settled r s d =
-    record {
-      view = r.view;
-      target = r.target;
-      base = r.base;
+    record (committed r s d) {
       length = cond (s == r.length) (longer r.length) r.length;
       word = with_verdict r.word s d;
-      sealed = sealed_with r.sealed s d;
-      mark = r.mark;
     }
 
 abbrev pub left : Replica → ℕ → Replica
-left r t =
-    record {
-      view = r.view;
-      target = t;
-      base = r.base;
-      length = r.length;
-      word = r.word;
-      sealed = r.sealed;
-      mark = false;
-    }
+left r t = record r { target = t; mark = false }
 
 abbrev pub started : Replica → Replica
-started r =
-    record {
-      view = r.view;
-      target = r.target;
-      base = r.base;
-      length = r.length;
-      word = r.word;
-      sealed = r.sealed;
-      mark = true;
-    }
+started r = record r { mark = true }
 
 abbrev pub entered : ℕ → ℕ → ℕ → Replica
-entered v n w = record { view = v; target = v; base = n; length = n; word = w; sealed = 0; mark = false }
+entered v n w = record initial { view = v; target = v; base = n; length = n; word = w }

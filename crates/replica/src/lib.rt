@@ -1,4 +1,4 @@
-//! One honest replica: what it holds, which steps its mode allows, and what each step makes of it.
+//! One honest replica: what it holds, what its mode allows, and what each call makes of it.
 #![tactic(auto)]
 
 mod line;
@@ -8,8 +8,8 @@ mod word;
 
 pub use word::bit;
 
-// The number of slots: the length of a full line, and the number of a word's bits.
-const SLOTS: u8 = 64;
+/// The number of slots: the length of a full line, and the number of a word's bits.
+pub const SLOTS: usize = 64;
 
 /// The verdict on a slot.
 #[derive(Clone, Copy, PartialEq, Eq, Debug)]
@@ -29,9 +29,9 @@ pub enum Mode {
     Leaving,
 }
 
-/// What a replica is called to do.
+/// What a call has a replica do, as far as its mode tells calls apart.
 #[derive(Clone, Copy, PartialEq, Eq, Debug)]
-pub enum Step {
+pub enum Activity {
     /// To take part in its view: deliver, find, drop, decide, prepare, commit, settle, reply.
     Work,
     /// To leave for a later view.

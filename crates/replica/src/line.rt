@@ -11,7 +11,7 @@ impl Replica {
     pub fn deliver(&mut self)
         ensures { self.new ≡ delivered self.old }
     {
-        if self.length < SLOTS {
+        if usize::from(self.length) < SLOTS {
             self.length += 1;
         }
     }

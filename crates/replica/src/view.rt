@@ -4,7 +4,7 @@ ghost use Rattle.replica.specs.Modes.{mode_of, in_mode};
 ghost use Rattle.replica.specs.Replicas.{initial, reach, left, started, entered};
 
 use crate::word::one_past;
-use crate::{Mode, Replica, Step};
+use crate::{Activity, Mode, Replica};
 use refusal::{Ground, Refusal};
 
 impl Replica {
@@ -26,14 +26,14 @@ impl Replica {
         }
     }
 
-    /// Whether it may take the step in its mode: if not, the ground is the mode.
-    pub fn admits(&self, step: Step) -> Result<(), Refusal>
-        ensures { result ≡ in_mode self.now step (Ok tt) }
+    /// Whether its mode allows the activity: if not, it is refused on ground 9.
+    pub fn admits(&self, activity: Activity) -> Result<(), Refusal>
+        ensures { result ≡ in_mode self.now activity (Ok tt) }
     {
-        // A replica matches its mode together with the step.
-        match (self.mode(), step) {
-            (Mode::AtWork, Step::Work | Step::Leave | Step::Enter) => Ok(()),
-            (Mode::Leaving, Step::Leave | Step::Start | Step::Enter) => Ok(()),
+        // A replica matches its mode together with the activity.
+        match (self.mode(), activity) {
+            (Mode::AtWork, Activity::Work | Activity::Leave | Activity::Enter) => Ok(()),
+            (Mode::Leaving, Activity::Leave | Activity::Start | Activity::Enter) => Ok(()),
             _ => Err(Ground::Mode.into()),
         }
     }
@@ -60,11 +60,11 @@ impl Replica {
         self.mark = true;
     }
 
-    /// Enters a view with a line, and with nothing sealed there.
-    // Length and word stay two arguments: a replica has them as two fields.
-    pub fn enter(&mut self, view: u8, length: u8, word: u64)
-        ensures { self.new ≡ entered view length word }
+    /// Enters a view with a line, its length and its word, and with nothing sealed there.
+    pub fn enter(&mut self, view: u8, line: (u8, u64))
+        ensures { self.new ≡ entered view line.0 line.1 }
     {
+        let (length, word) = line;
         *self = Replica {
             view,
             target: view,

@@ -10,7 +10,7 @@ use crate::SLOTS;
 pub fn bit(word: u64, slot: u8) -> bool
     ensures { result ≡ bit word slot }
 {
-    slot < SLOTS && (word >> slot) % 2 == 1
+    usize::from(slot) < SLOTS && (word >> slot) % 2 == 1
 }
 
 // The word with the slot's bit set: as it is where there is no such slot.
@@ -18,7 +18,11 @@ pub fn bit(word: u64, slot: u8) -> bool
 pub(crate) fn with_bit(word: u64, slot: u8) -> u64
     ensures { result ≡ with_bit word slot }
 {
-    if slot < SLOTS { word | 1 << slot } else { word }
+    if usize::from(slot) < SLOTS {
+        word | 1 << slot
+    } else {
+        word
+    }
 }
 
 // The word with the slot's bit cleared.
@@ -26,7 +30,7 @@ pub(crate) fn with_bit(word: u64, slot: u8) -> u64
 pub(crate) fn without_bit(word: u64, slot: u8) -> u64
     ensures { result ≡ without_bit word slot }
 {
-    if slot < SLOTS {
+    if usize::from(slot) < SLOTS {
         word & !(1 << slot)
     } else {
         word

@@ -11,5 +11,5 @@ pub returns : goal.returns
 returns g c =
     let a = c.args in
     let s = g.R.Register.held a.register.now in
-    all_from_yields_List (λ l. not (bit a.word l) || quorum s a.members.replicas a.members.quorum (prepare_by 0 a.view l 1)) _ _ _ c.all.ensures.ran (YieldsList-from_range 0 64 64 refl refl) (λ x r q k. search (rules, tests))
-    ∙ prepared_all s a.members.replicas a.members.quorum a.view a.word 64
+    all_from_yields_List (λ l. not (bit a.word l) || quorum s a.members (prepare_by 0 a.view l 1)) _ _ _ c.all.ensures.ran (YieldsList-from_range 0 64 64 refl refl) (λ x r q k. search (rules, tests))
+    ∙ prepared_all s a.members a.view a.word 64

@@ -7,9 +7,9 @@ pub returns : goal.returns
 returns g c =
     let a = c.args in
     let s = g.R.Register.held a.register.now in
-    let tried : c.check_backing.result ≡ merge_grounds s a.self.members.replicas a.self.members.quorum a.self.stamped a.self.target a.picks.now a.base =
+    let tried : c.check_backing.result ≡ merge_grounds s a.self a.picks.now a.base =
     search rules in
     record {
       grounds = tried;
-      meaning = λ ok. checked_from s a.self.members.replicas a.self.members.quorum a.self.stamped a.self.target a.picks.now a.base (sym (ap is_ok tried) ∙ ok);
+      meaning = λ ok. checked_from s a.self a.picks.now a.base (sym (ap is_ok tried) ∙ ok);
     }
