@@ -1,3 +1,4 @@
 pub mod Setups
 pub mod States
+pub mod Opening
 pub mod Certificates

@@ -1,6 +1,6 @@
 //! What a service answers along a word.
 ghost use Rattle.std.specs.Prelude.{◌≡◌, ◌<◌, length};
-ghost use Rattle.bench.specs.States.{service_of};
+ghost use Rattle.bench.specs.States.{service_of, kind_of};
 ghost use Rattle.protocol.specs.Service.{book, answer_at};
 
 use crate::open::Bench;
@@ -12,8 +12,9 @@ use service::Service;
 #[tactic(auto, using(crate::proofs::Feeding::fed_none, crate::proofs::Feeding::answered))]
 fn answer_along<S: Service>(service: &mut S, operations: &[u64], word: u64, slot: u8) -> u64
     requires { slot < length operations.now }
-    ensures answer { result ≡ answer_at (service_of S.fresh S.next S.answer (S.state service.old)) (book operations.now) word slot }
-    ensures kind { S.fresh (S.state service.new) ≡ S.fresh (S.state service.old) }
+    ensures answer { let stamped = book operations.now in
+        result ≡ answer_at (service_of S.Service service.old) stamped word slot }
+    ensures kind { kind_of S.Service service.new ≡ kind_of S.Service service.old }
 {
     service.clear();
     // The word from the bit of slot l on.
@@ -33,8 +34,9 @@ impl<'a, R: Register, S: Service> Bench<'a, R, S> {
     // What the bench's service answers for the slot along the word.
     pub(crate) fn answer_along(&mut self, word: u64, slot: u8) -> u64
         requires { slot < length self.old.status.operations.items }
-        ensures answer { result ≡ answer_at (service_of S.fresh S.next S.answer (S.state self.old.service.now)) (book self.old.status.operations.items) word slot }
-        ensures kind { S.fresh (S.state self.new.service.now) ≡ S.fresh (S.state self.old.service.now) }
+        ensures answer { let stamped = book self.old.status.operations.items in
+            result ≡ answer_at (service_of S.Service self.old.service.now) stamped word slot }
+        ensures kind { kind_of S.Service self.new.service.now ≡ kind_of S.Service self.old.service.now }
         ensures status { self.new.status ≡ self.old.status }
         ensures setup { self.new.setup ≡ self.old.setup }
         ensures register { self.new.register ≡ self.old.register }

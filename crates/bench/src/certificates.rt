@@ -1,17 +1,15 @@
 //! The calls that ask whether an answer or a no-op is certified, and by whom.
-ghost use Rattle.std.specs.Prelude.{◌≡◌, ◌<◌, ◌≤◌, true, is_ok, length};
-ghost use Rattle.record.specs.Statements.{reply_by, commit_by};
-ghost use Rattle.protocol.specs.Setup.{replicas, quorum_size};
-ghost use Rattle.protocol.specs.Answer.{answer_grounds};
-ghost use Rattle.protocol.specs.NoOp.{no_op_grounds};
+ghost use Rattle.std.specs.Prelude.{◌≡◌, ◌≤◌, length};
+ghost use Rattle.quorum.specs.Quorums.{said};
+ghost use Rattle.protocol.specs.Setup.{members};
+ghost use Rattle.protocol.specs.Call.{AskAnswer, AskNoOp};
 ghost use Rattle.bench.specs.Setups.{setup_of};
-ghost use Rattle.bench.specs.States.{state_of};
-ghost use Rattle.bench.specs.Certificates.{Certifies, Finds};
+ghost use Rattle.bench.specs.States.{Tries};
+ghost use Rattle.bench.specs.Certificates.{Writes, Certifies};
 
-use crate::grounds::LAST_VIEW;
+use crate::grounds::check_view;
 use crate::open::Bench;
-use quorum::SIGNERS;
-use record::{Record, ends_below};
+use record::{Record, SIGNERS, ends_below};
 use refusal::{Ground, Refusal};
 use register::Register;
 use replica::Verdict;
@@ -21,7 +19,9 @@ impl<'a, R: Register, S: Service> Bench<'a, R, S> {
     // Whether a quorum said the statement. If so, it stands in the first bytes of the buffer.
     fn certify(&self, witnesses: &mut [u8], statement: &Record) -> bool
         requires { 16 ≤ length witnesses.old }
-        ensures { Finds (R.held self.now.register.now) (replicas (setup_of self.now.setup)) (quorum_size (setup_of self.now.setup)) statement.now witnesses.old result witnesses.new }
+        ensures { let passes = said (R.held self.now.register.now) statement.now in
+            let members = members (setup_of self.now.setup) in
+            Writes members passes witnesses.old result witnesses.new }
     {
         let members = self.setup.members();
         match members.witnesses(&*self.register, statement) {
@@ -34,35 +34,35 @@ impl<'a, R: Register, S: Service> Bench<'a, R, S> {
         }
     }
 
-    // The grounds against asking for a no-op with a buffer of so many bytes.
-    fn may_no_op(&self, room: usize, view: u64, slot: u64) -> Result<(), Refusal>
-        ensures below { is_ok result ≡ true → slot < 64 }
-        ensures grounds { result ≡ no_op_grounds (state_of R.held R.free self.now) room view slot }
+    // The view and the slot, or the grounds against asking for a no-op with a buffer of so many bytes.
+    fn may_no_op(&self, room: usize, view: u64, slot: u64) -> Result<(u8, u8), Refusal>
+        ensures { let call = AskNoOp room view slot in
+            Tries R.Register S.Service self.now call (view, slot) result }
     {
         if room < SIGNERS {
             return Err(Ground::BufferLength.into());
         }
-        if view > LAST_VIEW {
-            return Err(Ground::ArgumentRange.into());
-        }
-        self.check_stamped(slot)
+        let view = check_view(view)?;
+        let slot = self.check_stamped(slot)?;
+        Ok((view, slot))
     }
 
-    // The grounds against asking for an answer with a buffer of so many bytes.
-    fn may_answer(&self, room: usize, view: u64, slot: u64, word: u64) -> Result<(), Refusal>
-        ensures below { is_ok result ≡ true → slot < 64 }
-        ensures grounds { result ≡ answer_grounds (state_of R.held R.free self.now) room view slot word }
+    // The view and the slot, or the grounds against asking for an answer with a buffer of so many bytes.
+    fn may_answer(&self, room: usize, view: u64, slot: u64, word: u64) -> Result<(u8, u8), Refusal>
+        ensures { let call = AskAnswer room view slot word 0 in
+            Tries R.Register S.Service self.now call (view, slot) result }
     {
-        self.may_no_op(room, view, slot)?;
-        if !ends_below(word, slot as u8) {
+        let (view, slot) = self.may_no_op(room, view, slot)?;
+        if !ends_below(word, slot) {
             return Err(Ground::ArgumentRange.into());
         }
-        Ok(())
+        Ok((view, slot))
     }
 
     /// Whether the answer `value` for the slot in the view, with the word of the no-ops below the
     /// slot, is certified: whether a quorum said that REPLY. If so, a quorum of different replicas that
-    /// said it stands in the first bytes of the buffer, which has to have at least 16 bytes. It changes nothing else.
+    /// said it stands in the first bytes of the buffer, which has to have at least 16 bytes. It changes
+    /// nothing else. Refused on grounds 1 and 8.
     pub fn answer(
         &self,
         witnesses: &mut [u8],
@@ -71,21 +71,22 @@ impl<'a, R: Register, S: Service> Bench<'a, R, S> {
         word: u64,
         value: u64,
     ) -> Result<bool, Refusal>
-        ensures { Certifies (setup_of self.now.setup) (state_of R.held R.free self.now) (answer_grounds (state_of R.held R.free self.now) (length witnesses.old) view slot word) (reply_by 0 view slot word value) witnesses.old result witnesses.new }
+        ensures { let call = AskAnswer (length witnesses.old) view slot word value in
+            Certifies R.Register S.Service self.now call witnesses.old result witnesses.new }
     {
-        self.may_answer(witnesses.len(), view, slot, word)?;
-        let statement = Record::reply_by(0, view as u8, slot as u8, word, value);
-        Ok(self.certify(witnesses, &statement))
+        let (view, slot) = self.may_answer(witnesses.len(), view, slot, word)?;
+        Ok(self.certify(witnesses, &Record::reply_by(0, view, slot, word, value)))
     }
 
     /// Whether the no-op of the slot in the view is certified: whether a quorum said COMMIT of no-op
     /// there. If so, a quorum of different replicas that said it stands in the first bytes of the
-    /// buffer, which has to have at least 16 bytes. It changes nothing else.
+    /// buffer, which has to have at least 16 bytes. It changes nothing else. Refused on grounds 1 and 8.
     pub fn no_op(&self, witnesses: &mut [u8], view: u64, slot: u64) -> Result<bool, Refusal>
-        ensures { Certifies (setup_of self.now.setup) (state_of R.held R.free self.now) (no_op_grounds (state_of R.held R.free self.now) (length witnesses.old) view slot) (commit_by 0 view slot 1) witnesses.old result witnesses.new }
+        ensures { let call = AskNoOp (length witnesses.old) view slot in
+            Certifies R.Register S.Service self.now call witnesses.old result witnesses.new }
     {
-        self.may_no_op(witnesses.len(), view, slot)?;
-        let statement = Record::commit_by(0, view as u8, slot as u8, Verdict::NoOp.into());
+        let (view, slot) = self.may_no_op(witnesses.len(), view, slot)?;
+        let statement = Record::commit_by(0, view, slot, Verdict::NoOp.into());
         Ok(self.certify(witnesses, &statement))
     }
 }

@@ -1,8 +1,7 @@
 //! The call commit.
 ghost use Rattle.std.specs.Prelude.{◌≡◌};
-ghost use Rattle.bench.specs.Setups.{setup_of};
-ghost use Rattle.bench.specs.States.{state_of, Does};
-ghost use Rattle.protocol.specs.Commit.{commit};
+ghost use Rattle.bench.specs.States.{Tries, Does};
+ghost use Rattle.protocol.specs.Call.{Commit};
 
 use crate::grounds::check_open;
 use crate::open::Bench;
@@ -13,27 +12,29 @@ use replica::Verdict;
 use service::Service;
 
 impl<'a, R: Register, S: Service> Bench<'a, R, S> {
-    // The grounds against the call, but for the register's own.
-    fn may_commit(&self, replica: u64, slot: u64, verdict: Verdict) -> Result<(), Refusal>
-        ensures { result ≡ (commit (setup_of self.now.setup) (state_of R.held R.free self.now) replica slot verdict).grounds }
+    // The replica's number and the slot, or the grounds against the call, but for the register's own.
+    fn may_commit(&self, replica: u64, slot: u64, verdict: Verdict) -> Result<(u8, u8), Refusal>
+        ensures { let call = Commit replica slot verdict in
+            Tries R.Register S.Service self.now call (replica, slot) result }
     {
-        self.check_work(replica, slot)?;
+        let (replica, slot) = self.check_work(replica, slot)?;
         let r = self.replica(replica);
         check_open(&r, slot)?;
-        self.check_quorum(&Record::prepare_by(0, r.view, slot as u8, verdict.into()))
+        self.check_quorum(&Record::prepare_by(0, r.view, slot, verdict.into()))?;
+        Ok((replica, slot))
     }
 
     /// Replica `replica` says COMMIT of a verdict that a quorum prepared for the slot. A no-op is sealed.
-    #[tactic(auto, using(register::proofs::Entering::adds_nothing))]
+    /// Refused on grounds 6 to 9, 11, 15 and 18.
     pub fn commit(&mut self, replica: u64, slot: u64, verdict: Verdict) -> Result<(), Refusal>
-        ensures does { Does R.held R.free R.memory R.stores self.old (λ u x. commit u x replica slot verdict) result self.new }
-        ensures service { self.new.service.now ≡ self.old.service.now }
+        ensures { let call = Commit replica slot verdict in
+            Does R.Register S.Service self.old call result self.new }
     {
-        self.may_commit(replica, slot, verdict)?;
+        let (replica, slot) = self.may_commit(replica, slot, verdict)?;
         let r = self.replica(replica);
-        let slot = slot as u8;
-        self.register.enter(&Record::commit_by(replica as u8, r.view, slot, verdict.into()))?;
-        self.status.replicas[replica as usize].commit(slot, verdict);
+        self.register
+            .enter(&Record::commit_by(replica, r.view, slot, verdict.into()))?;
+        self.status.replicas[usize::from(replica)].commit(slot, verdict);
         Ok(())
     }
 }

@@ -1,8 +1,7 @@
 //! The call decide.
 ghost use Rattle.std.specs.Prelude.{◌≡◌};
-ghost use Rattle.bench.specs.Setups.{setup_of};
-ghost use Rattle.bench.specs.States.{state_of, Does};
-ghost use Rattle.protocol.specs.Decide.{decide};
+ghost use Rattle.bench.specs.States.{Tries, Does};
+ghost use Rattle.protocol.specs.Call.{Decide};
 
 use crate::grounds::check_open;
 use crate::open::Bench;
@@ -13,27 +12,27 @@ use replica::Verdict;
 use service::Service;
 
 impl<'a, R: Register, S: Service> Bench<'a, R, S> {
-    // The grounds against the call, but for the register's own.
-    fn may_decide(&self, replica: u64, slot: u64, verdict: Verdict) -> Result<(), Refusal>
-        ensures { result ≡ (decide (setup_of self.now.setup) (state_of R.held R.free self.now) replica slot verdict).grounds }
+    // The replica's number and the slot, or the grounds against the call, but for the register's own.
+    fn may_decide(&self, replica: u64, slot: u64, verdict: Verdict) -> Result<(u8, u8), Refusal>
+        ensures { let call = Decide replica slot verdict in
+            Tries R.Register S.Service self.now call (replica, slot) result }
     {
-        self.check_work(replica, slot)?;
+        let (replica, slot) = self.check_work(replica, slot)?;
         let r = self.replica(replica);
         self.check_leader(replica, r.view)?;
         check_open(&r, slot)?;
-        let slot = slot as u8;
-        self.check_none(&Record::decision_by(replica as u8, r.view, slot, verdict.other().into()))?;
-        self.check_dropped(r.view, slot, verdict)
+        self.check_none(&Record::decision_by(replica, r.view, slot, verdict.other().into()))?;
+        self.check_dropped(r.view, slot, verdict)?;
+        Ok((replica, slot))
     }
 
-    /// Replica `replica`, the leader, says its DECISION on the slot.
-    #[tactic(auto, using(register::proofs::Entering::adds_nothing))]
+    /// Replica `replica`, the leader, says its DECISION on the slot. Refused on grounds 6 to 12, 15 and 18.
     pub fn decide(&mut self, replica: u64, slot: u64, verdict: Verdict) -> Result<(), Refusal>
-        ensures does { Does R.held R.free R.memory R.stores self.old (λ u x. decide u x replica slot verdict) result self.new }
-        ensures service { self.new.service.now ≡ self.old.service.now }
+        ensures { let call = Decide replica slot verdict in
+            Does R.Register S.Service self.old call result self.new }
     {
-        self.may_decide(replica, slot, verdict)?;
+        let (replica, slot) = self.may_decide(replica, slot, verdict)?;
         let r = self.replica(replica);
-        self.register.enter(&Record::decision_by(replica as u8, r.view, slot as u8, verdict.into()))
+        self.register.enter(&Record::decision_by(replica, r.view, slot, verdict.into()))
     }
 }

@@ -1,36 +1,36 @@
 //! The call drop.
 ghost use Rattle.std.specs.Prelude.{◌≡◌};
-ghost use Rattle.bench.specs.Setups.{setup_of};
-ghost use Rattle.bench.specs.States.{state_of, Does};
-ghost use Rattle.protocol.specs.Drop.{drop};
+ghost use Rattle.bench.specs.States.{Tries, Does};
+ghost use Rattle.protocol.specs.Call.{Drop};
 
 use crate::open::Bench;
 use record::Record;
 use refusal::Refusal;
 use register::Register;
-use replica::Step;
+use replica::Activity;
 use service::Service;
 
 impl<'a, R: Register, S: Service> Bench<'a, R, S> {
-    // The grounds against the call, but for the register's own.
-    fn may_drop(&self, replica: u64) -> Result<(), Refusal>
-        ensures { result ≡ (drop (setup_of self.now.setup) (state_of R.held R.free self.now) replica).grounds }
+    // The replica's number, or the grounds against the call, but for the register's own.
+    fn may_drop(&self, replica: u64) -> Result<u8, Refusal>
+        ensures { Tries R.Register S.Service self.now (Drop replica) replica result }
     {
-        self.setup.check_honest(replica)?;
+        let replica = self.setup.check_honest(replica)?;
         let r = self.replica(replica);
         self.check_stamped(u64::from(r.length))?;
-        r.admits(Step::Work)?;
-        self.check_said(&Record::find_by(self.setup.leader(r.view), r.view, r.length))
+        r.admits(Activity::Work)?;
+        self.check_said(&Record::find_by(self.setup.leader(r.view), r.view, r.length))?;
+        Ok(replica)
     }
 
     /// Replica `replica` says DROP for the slot at the end of its line, for which its leader said FIND.
+    /// Refused on grounds 6 to 9, 15 and 18.
     pub fn drop(&mut self, replica: u64) -> Result<(), Refusal>
-        ensures does { Does R.held R.free R.memory R.stores self.old (λ u x. drop u x replica) result self.new }
-        ensures service { self.new.service.now ≡ self.old.service.now }
+        ensures { Does R.Register S.Service self.old (Drop replica) result self.new }
     {
-        self.may_drop(replica)?;
+        let replica = self.may_drop(replica)?;
         let r = self.replica(replica);
         self.register
-            .enter(&Record::drop_by(replica as u8, r.view, r.length))
+            .enter(&Record::drop_by(replica, r.view, r.length))
     }
 }

@@ -1,42 +1,48 @@
 //! The call enter.
 ghost use Rattle.std.specs.Prelude.{◌≡◌};
-ghost use Rattle.bench.specs.Setups.{setup_of};
-ghost use Rattle.bench.specs.States.{state_of, Does};
-ghost use Rattle.protocol.specs.Enter.{enter};
+ghost use Rattle.bench.specs.States.{Tries, Does};
+ghost use Rattle.protocol.specs.Call.{Enter};
 
-use crate::grounds::{LAST_VIEW, check_line};
+use crate::grounds::{check_line, check_view};
 use crate::open::Bench;
 use record::Record;
 use refusal::{Ground, Refusal};
 use register::Register;
-use replica::Step;
+use replica::Activity;
 use service::Service;
 
 impl<'a, R: Register, S: Service> Bench<'a, R, S> {
-    // The grounds against the call.
-    fn may_enter(&self, replica: u64, length: u64, word: u64, view: u64) -> Result<(), Refusal>
-        ensures { result ≡ (enter (setup_of self.now.setup) (state_of R.held R.free self.now) replica length word view).grounds }
+    // The replica's number, the view and the line, or the grounds against the call.
+    fn may_enter(
+        &self,
+        replica: u64,
+        length: u64,
+        word: u64,
+        view: u64,
+    ) -> Result<(u8, u8, (u8, u64)), Refusal>
+        ensures { let call = Enter replica length word view in
+            Tries R.Register S.Service self.now call (replica, view, (length, word)) result }
     {
-        self.setup.check_honest(replica)?;
-        if view > LAST_VIEW {
-            return Err(Ground::ArgumentRange.into());
-        }
-        check_line(length, word)?;
+        let replica = self.setup.check_honest(replica)?;
+        let view = check_view(view)?;
+        let line = check_line(length, word)?;
         let r = self.replica(replica);
-        r.admits(Step::Enter)?;
-        if view <= u64::from(r.view) || view < u64::from(r.target) {
+        r.admits(Activity::Enter)?;
+        if view <= r.view || view < r.target {
             return Err(Ground::SlotOrView.into());
         }
-        self.check_quorum(&Record::entry_by(0, view as u8, (length as u8, word)))
+        self.check_quorum(&Record::entry_by(0, view, line))?;
+        Ok((replica, view, line))
     }
 
-    /// Replica `replica` enters the view with a line for which a quorum said ENTRY.
+    /// Replica `replica` enters the view with a line for which a quorum said ENTRY. Refused on grounds 6,
+    /// 7, 8, 11 and 15.
     pub fn enter(&mut self, replica: u64, length: u64, word: u64, view: u64) -> Result<(), Refusal>
-        ensures does { Does R.held R.free R.memory R.stores self.old (λ u x. enter u x replica length word view) result self.new }
-        ensures service { self.new.service.now ≡ self.old.service.now }
+        ensures { let call = Enter replica length word view in
+            Does R.Register S.Service self.old call result self.new }
     {
-        self.may_enter(replica, length, word, view)?;
-        self.status.replicas[replica as usize].enter(view as u8, length as u8, word);
+        let (replica, view, line) = self.may_enter(replica, length, word, view)?;
+        self.status.replicas[usize::from(replica)].enter(view, line);
         Ok(())
     }
 }

@@ -1,8 +1,7 @@
 //! The call forge.
 ghost use Rattle.std.specs.Prelude.{◌≡◌};
-ghost use Rattle.bench.specs.Setups.{setup_of};
-ghost use Rattle.bench.specs.States.{state_of, Does};
-ghost use Rattle.protocol.specs.Forge.{forge};
+ghost use Rattle.bench.specs.States.{Tries, Does};
+ghost use Rattle.protocol.specs.Call.{Forge};
 
 use crate::open::Bench;
 use record::Record;
@@ -13,7 +12,7 @@ use service::Service;
 impl<'a, R: Register, S: Service> Bench<'a, R, S> {
     // The grounds against the call, but for the register's own.
     fn may_forge(&self, statement: &Record) -> Result<(), Refusal>
-        ensures { result ≡ (forge (setup_of self.now.setup) (state_of R.held R.free self.now) statement.now).grounds }
+        ensures { Tries R.Register S.Service self.now (Forge statement.now) tt result }
     {
         if !statement.keeps_layout() {
             return Err(Ground::Layout.into());
@@ -21,10 +20,10 @@ impl<'a, R: Register, S: Service> Bench<'a, R, S> {
         self.setup.check_foreign(statement.signer)
     }
 
-    /// The foreign replica that signs the statement says it, whatever it is.
+    /// The foreign replica that signs the statement says it, whatever it is. Refused on grounds 2, 6, 7
+    /// and 18.
     pub fn forge(&mut self, statement: &Record) -> Result<(), Refusal>
-        ensures does { Does R.held R.free R.memory R.stores self.old (λ u x. forge u x statement.now) result self.new }
-        ensures service { self.new.service.now ≡ self.old.service.now }
+        ensures { Does R.Register S.Service self.old (Forge statement.now) result self.new }
     {
         self.may_forge(statement)?;
         self.register.enter(statement)

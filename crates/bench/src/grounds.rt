@@ -1,68 +1,91 @@
-//! The grounds that several calls share.
-ghost use Rattle.std.specs.Prelude.{◌≡◌, ◌<◌, Ok, true, is_ok, length};
-ghost use Rattle.protocol.specs.Grounds.{if_honest, if_stamped, if_line, if_working, if_leader, if_open, if_none, if_said, if_quorum, if_dropped};
-ghost use Rattle.protocol.specs.Setup.{replicas, quorum_size};
+//! The grounds that several calls share. Each check answers what it checked.
+ghost use Rattle.std.specs.Prelude.{◌≡◌, ◌<◌, Ok, IfOk, length};
+ghost use Rattle.protocol.specs.Grounds.{if_honest, if_stamped, if_view, if_line, if_working, if_leader, if_open, if_none, if_said, if_quorum, if_dropped};
+ghost use Rattle.protocol.specs.Setup.{change_to};
 ghost use Rattle.protocol.specs.State.{replica_at};
 ghost use Rattle.bench.specs.Setups.{setup_of};
 ghost use Rattle.bench.specs.States.{state_of};
 
 use crate::open::Bench;
-use crate::status::SLOTS;
 use merge::ViewChange;
 use record::{Record, ends_below};
 use refusal::{Ground, Refusal};
 use register::Register;
-use replica::{Replica, Step, Verdict};
+use replica::{Activity, Replica, SLOTS, Verdict};
 use service::Service;
 
 // The last view.
-pub(crate) const LAST_VIEW: u64 = 63;
+const LAST_VIEW: u64 = 63;
 
-// Refuses unless length and word are a line.
-pub(crate) fn check_line(length: u64, word: u64) -> Result<(), Refusal>
-    ensures { result ≡ if_line length word (Ok tt) }
+// The view. Refuses one after the last.
+pub(crate) fn check_view(view: u64) -> Result<u8, Refusal>
+    ensures { result ≡ if_view view (Ok view) }
+{
+    if view > LAST_VIEW {
+        return Err(Ground::ArgumentRange.into());
+    }
+    Ok(view as u8)
+}
+
+// The line. Refuses unless length and word are one.
+pub(crate) fn check_line(length: u64, word: u64) -> Result<(u8, u64), Refusal>
+    ensures { result ≡ if_line length word (Ok (length, word)) }
 {
     if length > SLOTS as u64 || !ends_below(word, length as u8) {
         return Err(Ground::ArgumentRange.into());
     }
-    Ok(())
+    Ok((length as u8, word))
+}
+
+// The slot. Refuses unless it is from the replica's base length through its length.
+pub(crate) fn check_open(r: &Replica, slot: u8) -> Result<u8, Refusal>
+    ensures { result ≡ if_open r.now slot (Ok slot) }
+{
+    if slot < r.base || slot > r.length {
+        return Err(Ground::SlotOrView.into());
+    }
+    Ok(slot)
 }
 
 impl<'a, R: Register, S: Service> Bench<'a, R, S> {
     // The replica of the number.
-    pub(crate) fn replica(&self, replica: u64) -> Replica
+    pub(crate) fn replica(&self, replica: u8) -> Replica
         requires { replica < 16 }
-        ensures { result ≡ replica_at (state_of R.held R.free self.now) replica }
+        ensures { result ≡ replica_at (state_of R.Register self.now) replica }
     {
-        self.status.replicas[replica as usize]
+        self.status.replicas[usize::from(replica)]
     }
 
-    // Refuses unless the slot is stamped.
-    pub(crate) fn check_stamped(&self, slot: u64) -> Result<(), Refusal>
-        ensures ground { result ≡ if_stamped (state_of R.held R.free self.now) slot (Ok tt) }
-        ensures below { is_ok result ≡ true → slot < 64 }
+    // The slot. Refuses unless it is stamped.
+    pub(crate) fn check_stamped(&self, slot: u64) -> Result<u8, Refusal>
+        ensures ground { result ≡ if_stamped (state_of R.Register self.now) slot (Ok slot) }
+        ensures below { IfOk result (λ s. s < 64) }
     {
         if slot >= self.status.operations().len() as u64 {
             return Err(Ground::ArgumentRange.into());
         }
-        Ok(())
+        Ok(slot as u8)
     }
 
-    // Refuses unless the replica is honest and at work, and the slot is stamped.
-    pub(crate) fn check_work(&self, replica: u64, slot: u64) -> Result<(), Refusal>
-        ensures below { is_ok result ≡ true → slot < 64 }
-        ensures grounds { result ≡ if_honest (setup_of self.now.setup) replica (if_stamped (state_of R.held R.free self.now) slot (if_working (replica_at (state_of R.held R.free self.now) replica) (Ok tt))) }
+    // The replica's number and the slot. Refuses unless the replica is honest and at work, and the
+    // slot is stamped.
+    pub(crate) fn check_work(&self, replica: u64, slot: u64) -> Result<(u8, u8), Refusal>
+        ensures grounds { let x = state_of R.Register self.now in
+            let working = if_working (replica_at x replica) (Ok (replica, slot)) in
+            result ≡ if_honest (setup_of self.now.setup) replica (if_stamped x slot working) }
+        ensures below { IfOk result (λ checked. (checked.0 < 16) × (checked.1 < 64)) }
     {
-        self.setup.check_honest(replica)?;
-        self.check_stamped(slot)?;
-        self.replica(replica).admits(Step::Work)
+        let replica = self.setup.check_honest(replica)?;
+        let slot = self.check_stamped(slot)?;
+        self.replica(replica).admits(Activity::Work)?;
+        Ok((replica, slot))
     }
 
     // Refuses unless the replica leads the view.
-    pub(crate) fn check_leader(&self, replica: u64, view: u8) -> Result<(), Refusal>
+    pub(crate) fn check_leader(&self, replica: u8, view: u8) -> Result<(), Refusal>
         ensures { result ≡ if_leader (setup_of self.now.setup) replica view (Ok tt) }
     {
-        if replica != u64::from(self.setup.leader(view)) {
+        if replica != self.setup.leader(view) {
             return Err(Ground::NotLeader.into());
         }
         Ok(())
@@ -70,7 +93,7 @@ impl<'a, R: Register, S: Service> Bench<'a, R, S> {
 
     // Refuses unless the statement was said.
     pub(crate) fn check_said(&self, statement: &Record) -> Result<(), Refusal>
-        ensures { result ≡ if_said (state_of R.held R.free self.now) statement.now (Ok tt) }
+        ensures { result ≡ if_said (state_of R.Register self.now) statement.now (Ok tt) }
     {
         if !self.register.ask(statement) {
             return Err(Ground::StatementsMissing.into());
@@ -80,7 +103,7 @@ impl<'a, R: Register, S: Service> Bench<'a, R, S> {
 
     // Refuses if the statement was said.
     pub(crate) fn check_none(&self, statement: &Record) -> Result<(), Refusal>
-        ensures { result ≡ if_none (state_of R.held R.free self.now) statement.now (Ok tt) }
+        ensures { result ≡ if_none (state_of R.Register self.now) statement.now (Ok tt) }
     {
         if self.register.ask(statement) {
             return Err(Ground::Barred.into());
@@ -90,7 +113,8 @@ impl<'a, R: Register, S: Service> Bench<'a, R, S> {
 
     // Refuses unless a quorum said the statement.
     pub(crate) fn check_quorum(&self, statement: &Record) -> Result<(), Refusal>
-        ensures { result ≡ if_quorum (setup_of self.now.setup) (state_of R.held R.free self.now) statement.now (Ok tt) }
+        ensures { let bench = setup_of self.now.setup in
+            result ≡ if_quorum bench (state_of R.Register self.now) statement.now (Ok tt) }
     {
         if !self.setup.members().reached(&*self.register, statement) {
             return Err(Ground::StatementsMissing.into());
@@ -100,7 +124,8 @@ impl<'a, R: Register, S: Service> Bench<'a, R, S> {
 
     // Refuses a no-op unless a quorum said DROP for the slot in the view.
     pub(crate) fn check_dropped(&self, view: u8, slot: u8, verdict: Verdict) -> Result<(), Refusal>
-        ensures { result ≡ if_dropped (setup_of self.now.setup) (state_of R.held R.free self.now) view slot verdict (Ok tt) }
+        ensures { let bench = setup_of self.now.setup in
+            result ≡ if_dropped bench (state_of R.Register self.now) view slot verdict (Ok tt) }
     {
         match verdict {
             Verdict::Operation => Ok(()),
@@ -110,7 +135,8 @@ impl<'a, R: Register, S: Service> Bench<'a, R, S> {
 
     // The change to the view.
     pub(crate) fn view_change(&self, target: u8) -> ViewChange
-        ensures { result ≡ record { members = record { replicas = replicas (setup_of self.now.setup); quorum = quorum_size (setup_of self.now.setup) }; stamped = length self.now.status.operations.items; target = target } }
+        ensures { let stamped = length self.now.status.operations.items in
+            result ≡ change_to (setup_of self.now.setup) stamped target }
     {
         ViewChange {
             members: self.setup.members(),
@@ -118,14 +144,4 @@ impl<'a, R: Register, S: Service> Bench<'a, R, S> {
             target,
         }
     }
-}
-
-// Refuses unless the slot is from the replica's base length through its length.
-pub(crate) fn check_open(r: &Replica, slot: u64) -> Result<(), Refusal>
-    ensures { result ≡ if_open r.now slot (Ok tt) }
-{
-    if slot < u64::from(r.base) || slot > u64::from(r.length) {
-        return Err(Ground::SlotOrView.into());
-    }
-    Ok(())
 }

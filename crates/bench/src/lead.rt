@@ -1,9 +1,8 @@
 //! The call lead.
-ghost use Rattle.std.specs.Prelude.{◌≡◌, Ok, Err, MatchResult};
+ghost use Rattle.std.specs.Prelude.{◌≡◌};
 ghost use Rattle.merge.specs.Merges.{merge};
-ghost use Rattle.bench.specs.Setups.{setup_of};
-ghost use Rattle.bench.specs.States.{state_of, Does};
-ghost use Rattle.protocol.specs.Lead.{lead};
+ghost use Rattle.bench.specs.States.{Tries, Does};
+ghost use Rattle.protocol.specs.Call.{Lead};
 
 use crate::grounds::check_line;
 use crate::open::Bench;
@@ -11,32 +10,38 @@ use merge::check_layout;
 use record::Record;
 use refusal::Refusal;
 use register::Register;
-use replica::Step;
+use replica::Activity;
 use service::Service;
 
 impl<'a, R: Register, S: Service> Bench<'a, R, S> {
-    // The line that the picks merge to, or the grounds against the call, but for the register's own.
+    // The replica's number and the line that the picks merge to, or the grounds against the call, but for
+    // the register's own.
     fn may_lead(
         &self,
         replica: u64,
         picks: &[Record],
         base_length: u64,
         base_word: u64,
-    ) -> Result<(u8, u64), Refusal>
-        ensures { MatchResult result (λ line. ((lead (setup_of self.now.setup) (state_of R.held R.free self.now) replica picks.now base_length base_word).grounds ≡ Ok tt) × (line ≡ merge (base_length, base_word) picks.now)) (λ e. (lead (setup_of self.now.setup) (state_of R.held R.free self.now) replica picks.now base_length base_word).grounds ≡ Err e) }
+    ) -> Result<(u8, (u8, u64)), Refusal>
+        ensures { let call = Lead replica picks.now base_length base_word in
+            let line = merge (base_length, base_word) picks.now in
+            Tries R.Register S.Service self.now call (replica, line) result }
     {
         check_layout(picks)?;
-        self.setup.check_honest(replica)?;
-        check_line(base_length, base_word)?;
+        let replica = self.setup.check_honest(replica)?;
+        let base = check_line(base_length, base_word)?;
         let r = self.replica(replica);
-        r.admits(Step::Start)?;
+        r.admits(Activity::Start)?;
         self.check_leader(replica, r.target)?;
-        self.view_change(r.target)
-            .merging(&*self.register, picks, (base_length as u8, base_word))
+        let line = self
+            .view_change(r.target)
+            .merging(&*self.register, picks, base)?;
+        Ok((replica, line))
     }
 
     /// Replica `replica`, the leader of its target, says VIEW-START for it with the line that the picks
-    /// merge to over a base.
+    /// merge to over a base. Refused on grounds 2, 6 to 10, 13 to 15 and 18; on 2, 13 and 15 at the
+    /// place of the pick.
     #[tactic(auto, using(register::proofs::Entering::adds_nothing))]
     pub fn lead(
         &mut self,
@@ -45,12 +50,12 @@ impl<'a, R: Register, S: Service> Bench<'a, R, S> {
         base_length: u64,
         base_word: u64,
     ) -> Result<(), Refusal>
-        ensures does { Does R.held R.free R.memory R.stores self.old (λ u x. lead u x replica picks.now base_length base_word) result self.new }
-        ensures service { self.new.service.now ≡ self.old.service.now }
+        ensures { let call = Lead replica picks.now base_length base_word in
+            Does R.Register S.Service self.old call result self.new }
     {
-        let line = self.may_lead(replica, picks, base_length, base_word)?;
+        let (replica, line) = self.may_lead(replica, picks, base_length, base_word)?;
         let r = self.replica(replica);
         self.register
-            .enter(&Record::view_start_by(replica as u8, r.target, line))
+            .enter(&Record::view_start_by(replica, r.target, line))
     }
 }

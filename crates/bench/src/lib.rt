@@ -22,6 +22,6 @@ mod stamp;
 mod start;
 mod status;
 
-pub use open::Bench;
+pub use open::{Bench, Unopened};
 pub use setup::Setup;
-pub use status::{SLOTS, Status};
+pub use status::Status;

@@ -1,11 +1,12 @@
 //! A bench, and opening one.
-ghost use Rattle.std.specs.Prelude.{◌≡◌, IfOk, MatchResult};
-ghost use Rattle.bench.specs.Setups.{setup_of, OpenGranted, OpenRefused};
-ghost use Rattle.bench.specs.States.{Opened};
+ghost use Rattle.std.specs.Prelude.{◌≡◌};
+ghost use Rattle.bench.specs.Setups.{setup_of};
+ghost use Rattle.bench.specs.Opening.{Opened, Opens};
 
 use crate::setup::Setup;
-use crate::status::{REPLICAS, Status};
+use crate::status::Status;
 use arrayvec::ArrayVec;
+use record::SIGNERS;
 use refusal::Refusal;
 use register::Register;
 use replica::Replica;
@@ -21,40 +22,60 @@ pub struct Bench<'a, R, S> {
     pub(crate) service: &'a mut S,
 }
 
+/// An open that was refused: why, and what was lent for it, handed back as it was.
+#[derive(Drop)]
+pub struct Unopened<'a, R, S> {
+    /// By ground 3, 4 or 5, at place 0.
+    pub refusal: Refusal,
+    pub register: &'a mut R,
+    pub service: &'a mut S,
+}
+
+/// Why it was refused.
+impl<'a, R, S> From<Unopened<'a, R, S>> for Refusal {
+    ghost from_gives = { λ unopened refusal. refusal ≡ unopened.refusal };
+
+    fn from(unopened: Unopened<'a, R, S>) -> Refusal {
+        unopened.refusal
+    }
+}
+
 impl<'a, R: Register, S: Service> Bench<'a, R, S> {
     // A bench on which nothing is stamped, and every replica is as at opening.
     fn new(setup: Setup, register: &'a mut R, service: &'a mut S) -> Bench<'a, R, S>
-        ensures opened { Opened R.held R.free (setup_of setup) register.old result }
-        ensures service { result.service.now ≡ service.old }
-        ensures lent_register { result.register.ghost_name ≡ register.entry.ghost_name }
-        ensures lent_service { result.service.ghost_name ≡ service.entry.ghost_name }
+        ensures { Opened R.Register (setup_of setup) register.entry service.entry result }
     {
         Bench {
             setup,
             status: Status {
                 operations: ArrayVec::new(),
-                replicas: [Replica::new(); REPLICAS],
+                replicas: [Replica::new(); SIGNERS],
             },
             register,
             service,
         }
     }
 
-    /// Opens a bench over an empty register. Nothing is stamped, and every replica is as at opening. It is
-    /// refused on the grounds that `Setup::check` tries, which only looks at the register.
+    /// Opens a bench over an empty register: nothing is stamped, and every replica is as at opening. It
+    /// is refused on the grounds that `Setup::check` tries, and then the register and the service
+    /// come back as they were.
     pub fn open(
         f: u64,
         foreign: u64,
         register: &'a mut R,
         service: &'a mut S,
-    ) -> Result<Bench<'a, R, S>, Refusal>
-        ensures opens { MatchResult result (λ b. OpenGranted (record { f = f; mask = foreign }) (R.held register.old) × Opened R.held R.free (record { f = f; mask = foreign }) register.old b) (λ e. OpenRefused (record { f = f; mask = foreign }) (R.held register.old) e) }
-        ensures service { IfOk result (λ b. b.service.now ≡ service.old) }
-        ensures lent_register { IfOk result (λ b. b.register.ghost_name ≡ register.entry.ghost_name) }
-        ensures lent_service { IfOk result (λ b. b.service.ghost_name ≡ service.entry.ghost_name) }
+    ) -> Result<Bench<'a, R, S>, Unopened<'a, R, S>>
+        ensures { Opens R.Register (record { f = f; mask = foreign })
+            register.entry service.entry result }
     {
-        let setup = Setup::check(f, foreign, &*register)?;
-        Ok(Bench::new(setup, register, service))
+        match Setup::check(f, foreign, &*register) {
+            Ok(setup) => Ok(Bench::new(setup, register, service)),
+            Err(refusal) => Err(Unopened {
+                refusal,
+                register,
+                service,
+            }),
+        }
     }
 
     /// Who the replicas are.

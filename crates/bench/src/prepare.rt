@@ -1,8 +1,7 @@
 //! The call prepare.
 ghost use Rattle.std.specs.Prelude.{◌≡◌};
-ghost use Rattle.bench.specs.Setups.{setup_of};
-ghost use Rattle.bench.specs.States.{state_of, Does};
-ghost use Rattle.protocol.specs.Prepare.{prepare};
+ghost use Rattle.bench.specs.States.{Tries, Does};
+ghost use Rattle.protocol.specs.Call.{Prepare};
 
 use crate::grounds::check_open;
 use crate::open::Bench;
@@ -13,28 +12,30 @@ use replica::Verdict;
 use service::Service;
 
 impl<'a, R: Register, S: Service> Bench<'a, R, S> {
-    // The grounds against the call, but for the register's own.
-    fn may_prepare(&self, replica: u64, slot: u64, verdict: Verdict) -> Result<(), Refusal>
-        ensures { result ≡ (prepare (setup_of self.now.setup) (state_of R.held R.free self.now) replica slot verdict).grounds }
+    // The replica's number and the slot, or the grounds against the call, but for the register's own.
+    fn may_prepare(&self, replica: u64, slot: u64, verdict: Verdict) -> Result<(u8, u8), Refusal>
+        ensures { let call = Prepare replica slot verdict in
+            Tries R.Register S.Service self.now call (replica, slot) result }
     {
-        self.check_work(replica, slot)?;
+        let (replica, slot) = self.check_work(replica, slot)?;
         let r = self.replica(replica);
         check_open(&r, slot)?;
-        let slot = slot as u8;
-        self.check_none(&Record::prepare_by(replica as u8, r.view, slot, verdict.other().into()))?;
+        self.check_none(&Record::prepare_by(replica, r.view, slot, verdict.other().into()))?;
         let leader = self.setup.leader(r.view);
         self.check_said(&Record::decision_by(leader, r.view, slot, verdict.into()))?;
-        self.check_dropped(r.view, slot, verdict)
+        self.check_dropped(r.view, slot, verdict)?;
+        Ok((replica, slot))
     }
 
-    /// Replica `replica` takes up its leader's DECISION on the slot, and says PREPARE.
-    #[tactic(auto, using(register::proofs::Entering::adds_nothing))]
+    /// Replica `replica` takes up its leader's DECISION on the slot, and says PREPARE. Refused on
+    /// grounds 6 to 9, 11, 12, 15 and 18.
     pub fn prepare(&mut self, replica: u64, slot: u64, verdict: Verdict) -> Result<(), Refusal>
-        ensures does { Does R.held R.free R.memory R.stores self.old (λ u x. prepare u x replica slot verdict) result self.new }
-        ensures service { self.new.service.now ≡ self.old.service.now }
+        ensures { let call = Prepare replica slot verdict in
+            Does R.Register S.Service self.old call result self.new }
     {
-        self.may_prepare(replica, slot, verdict)?;
+        let (replica, slot) = self.may_prepare(replica, slot, verdict)?;
         let r = self.replica(replica);
-        self.register.enter(&Record::prepare_by(replica as u8, r.view, slot as u8, verdict.into()))
+        self.register
+            .enter(&Record::prepare_by(replica, r.view, slot, verdict.into()))
     }
 }

@@ -1,8 +1,7 @@
 //! The call reply.
-ghost use Rattle.std.specs.Prelude.{◌≡◌, ◌<◌, ◌%◌, ◌^◌, true, false, is_ok};
-ghost use Rattle.bench.specs.Setups.{setup_of};
-ghost use Rattle.bench.specs.States.{service_of, state_of, Does};
-ghost use Rattle.protocol.specs.Reply.{reply};
+ghost use Rattle.std.specs.Prelude.{◌≡◌, ◌<◌, ◌%◌, ◌^◌, IfOk};
+ghost use Rattle.bench.specs.States.{Tries, Does};
+ghost use Rattle.protocol.specs.Call.{Reply};
 
 use crate::open::Bench;
 use record::Record;
@@ -20,35 +19,30 @@ fn below(word: u64, slot: u8) -> u64
 }
 
 impl<'a, R: Register, S: Service> Bench<'a, R, S> {
-    // The grounds against the call, but for the register's own.
-    fn may_reply(&self, replica: u64, slot: u64) -> Result<(), Refusal>
-        ensures below { is_ok result ≡ true → slot < 64 }
-        ensures grounds { result ≡ (reply (setup_of self.now.setup) (service_of S.fresh S.next S.answer (S.state self.now.service.now)) (state_of R.held R.free self.now) replica slot).grounds }
+    // The replica's number and the slot, or the grounds against the call, but for the register's own.
+    fn may_reply(&self, replica: u64, slot: u64) -> Result<(u8, u8), Refusal>
+        ensures grounds { let call = Reply replica slot in
+            Tries R.Register S.Service self.now call (replica, slot) result }
+        ensures below { IfOk result (λ checked. checked.1 < 64) }
     {
-        self.check_work(replica, slot)?;
+        let (replica, slot) = self.check_work(replica, slot)?;
         let r = self.replica(replica);
-        if slot >= u64::from(r.length) || bit(r.word, slot as u8) {
+        if slot >= r.length || bit(r.word, slot) {
             return Err(Ground::SlotOrView.into());
         }
-        Ok(())
+        Ok((replica, slot))
     }
 
-    /// Replica `replica` says its answer for a slot of its line that has an operation.
+    /// Replica `replica` says its answer for a slot of its line that has an operation. Refused on
+    /// grounds 6 to 9, 11 and 18.
     pub fn reply(&mut self, replica: u64, slot: u64) -> Result<(), Refusal>
-        ensures does { Does R.held R.free R.memory R.stores self.old (λ u x. reply u (service_of S.fresh S.next S.answer (S.state self.old.service.now)) x replica slot) result self.new }
-        ensures kind { S.fresh (S.state self.new.service.now) ≡ S.fresh (S.state self.old.service.now) }
-        ensures grounds { is_ok (reply (setup_of self.old.setup) (service_of S.fresh S.next S.answer (S.state self.old.service.now)) (state_of R.held R.free self.old) replica slot).grounds ≡ false → self.new.service.now ≡ self.old.service.now }
+        ensures { Does R.Register S.Service self.old (Reply replica slot) result self.new }
     {
-        self.may_reply(replica, slot)?;
+        let (replica, slot) = self.may_reply(replica, slot)?;
         let r = self.replica(replica);
-        let slot = slot as u8;
         let answer = self.answer_along(r.word, slot);
-        self.register.enter(&Record::reply_by(
-            replica as u8,
-            r.view,
-            slot,
-            below(r.word, slot),
-            answer,
-        ))
+        let word = below(r.word, slot);
+        self.register
+            .enter(&Record::reply_by(replica, r.view, slot, word, answer))
     }
 }

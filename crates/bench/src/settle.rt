@@ -1,8 +1,7 @@
 //! The call settle.
-ghost use Rattle.std.specs.Prelude.{◌≡◌, ◌<◌, true, is_ok};
-ghost use Rattle.bench.specs.Setups.{setup_of};
-ghost use Rattle.bench.specs.States.{state_of, Does};
-ghost use Rattle.protocol.specs.Settle.{settle};
+ghost use Rattle.std.specs.Prelude.{◌≡◌};
+ghost use Rattle.bench.specs.States.{Tries, Does};
+ghost use Rattle.protocol.specs.Call.{Settle};
 
 use crate::grounds::check_open;
 use crate::open::Bench;
@@ -13,24 +12,26 @@ use replica::Verdict;
 use service::Service;
 
 impl<'a, R: Register, S: Service> Bench<'a, R, S> {
-    // The grounds against the call.
-    fn may_settle(&self, replica: u64, slot: u64, verdict: Verdict) -> Result<(), Refusal>
-        ensures below { is_ok result ≡ true → slot < 64 }
-        ensures grounds { result ≡ (settle (setup_of self.now.setup) (state_of R.held R.free self.now) replica slot verdict).grounds }
+    // The replica's number and the slot, or the grounds against the call.
+    fn may_settle(&self, replica: u64, slot: u64, verdict: Verdict) -> Result<(u8, u8), Refusal>
+        ensures { let call = Settle replica slot verdict in
+            Tries R.Register S.Service self.now call (replica, slot) result }
     {
-        self.check_work(replica, slot)?;
+        let (replica, slot) = self.check_work(replica, slot)?;
         let r = self.replica(replica);
         check_open(&r, slot)?;
-        self.check_quorum(&Record::commit_by(0, r.view, slot as u8, verdict.into()))
+        self.check_quorum(&Record::commit_by(0, r.view, slot, verdict.into()))?;
+        Ok((replica, slot))
     }
 
-    /// Replica `replica` puts a verdict that a quorum committed for the slot into its line. A no-op is sealed.
+    /// Replica `replica` puts a verdict that a quorum committed for the slot into its line. A no-op is
+    /// sealed. Refused on grounds 6 to 9, 11 and 15.
     pub fn settle(&mut self, replica: u64, slot: u64, verdict: Verdict) -> Result<(), Refusal>
-        ensures does { Does R.held R.free R.memory R.stores self.old (λ u x. settle u x replica slot verdict) result self.new }
-        ensures service { self.new.service.now ≡ self.old.service.now }
+        ensures { let call = Settle replica slot verdict in
+            Does R.Register S.Service self.old call result self.new }
     {
-        self.may_settle(replica, slot, verdict)?;
-        self.status.replicas[replica as usize].settle(slot as u8, verdict);
+        let (replica, slot) = self.may_settle(replica, slot, verdict)?;
+        self.status.replicas[usize::from(replica)].settle(slot, verdict);
         Ok(())
     }
 }

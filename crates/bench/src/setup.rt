@@ -1,7 +1,5 @@
 //! Who the replicas of a bench are, and the grounds against opening one.
-ghost use Rattle.std.specs.Prelude.{◌≡◌, ◌≤◌, Ok, nat_lt};
-ghost use Rattle.refusal.specs.Grounds.{unless};
-ghost use Rattle.refusal.specs.declared.Ground.TheVariants.{ReplicaNumber, Honesty};
+ghost use Rattle.std.specs.Prelude.{◌≡◌, ◌≤◌, ◌<◌, Ok, IfOk};
 
 use quorum::Membership;
 use refusal::{Ground, Refusal};
@@ -19,8 +17,8 @@ pub struct Setup {
 }
 
 impl Setup {
-    ghost use Rattle.protocol.specs.Setup.{replicas, quorum_size, foreign, leader};
-    ghost use Rattle.protocol.specs.Grounds.{if_honest};
+    ghost use Rattle.protocol.specs.Setup.{members, leader};
+    ghost use Rattle.protocol.specs.Grounds.{if_honest, if_foreign};
     ghost use Rattle.bench.specs.Setups.{setup_of, Checks};
 
     /// Tries the grounds against an open, in the order of their numbers. The register is only asked
@@ -46,7 +44,7 @@ impl Setup {
 
     /// How many replicas there are, and how many of them are a quorum.
     pub fn members(self) -> Membership
-        ensures { result ≡ record { replicas = replicas (setup_of self); quorum = quorum_size (setup_of self) } }
+        ensures { result ≡ members (setup_of self) }
     {
         Membership {
             replicas: 3 * self.f + 1,
@@ -61,22 +59,24 @@ impl Setup {
         view % self.members().replicas
     }
 
-    // Refuses unless there is a replica of the number, and it is honest.
-    pub(crate) fn check_honest(self, replica: u64) -> Result<(), Refusal>
-        ensures { result ≡ if_honest (setup_of self) replica (Ok tt) }
+    // The replica's number. Refuses unless there is a replica of the number, and it is honest.
+    pub(crate) fn check_honest(self, replica: u64) -> Result<u8, Refusal>
+        ensures grounds { result ≡ if_honest (setup_of self) replica (Ok replica) }
+        ensures below { IfOk result (λ checked. checked < 16) }
     {
         if replica >= u64::from(self.members().replicas) {
             return Err(Ground::ReplicaNumber.into());
         }
-        if bit(self.foreign, replica as u8) {
+        let replica = replica as u8;
+        if bit(self.foreign, replica) {
             return Err(Ground::Honesty.into());
         }
-        Ok(())
+        Ok(replica)
     }
 
     // Refuses unless there is a replica of the number, and it is foreign.
     pub(crate) fn check_foreign(self, replica: u8) -> Result<(), Refusal>
-        ensures { result ≡ unless (nat_lt replica (replicas (setup_of self))) ReplicaNumber 0 (unless (foreign (setup_of self) replica) Honesty 0 (Ok tt)) }
+        ensures { result ≡ if_foreign (setup_of self) replica (Ok tt) }
     {
         if replica >= self.members().replicas {
             return Err(Ground::ReplicaNumber.into());

@@ -1,7 +1,6 @@
 //! The call stamp.
-ghost use Rattle.std.specs.Prelude.{◌≡◌};
 ghost use Rattle.bench.specs.States.{Does};
-ghost use Rattle.protocol.specs.Stamp.{stamp};
+ghost use Rattle.protocol.specs.Call.{Stamp};
 
 use crate::open::Bench;
 use refusal::{Ground, Refusal};
@@ -9,10 +8,9 @@ use register::Register;
 use service::Service;
 
 impl<'a, R: Register, S: Service> Bench<'a, R, S> {
-    /// Gives the operation to the lowest slot that is not stamped.
+    /// Gives the operation to the lowest slot that is not stamped. Refused on ground 17.
     pub fn stamp(&mut self, operation: u64) -> Result<(), Refusal>
-        ensures does { Does R.held R.free R.memory R.stores self.old (λ u x. stamp x operation) result self.new }
-        ensures service { self.new.service.now ≡ self.old.service.now }
+        ensures { Does R.Register S.Service self.old (Stamp operation) result self.new }
     {
         if self.status.operations.is_full() {
             return Err(Ground::SlotsExhausted.into());

@@ -2,13 +2,8 @@
 ghost use Rattle.std.specs.Prelude.{◌≡◌, ◌≤◌, length};
 
 use arrayvec::ArrayVec;
-use replica::Replica;
-
-/// The number of slots.
-pub const SLOTS: usize = 64;
-
-// The greatest number of replicas.
-pub(crate) const REPLICAS: usize = 16;
+use record::SIGNERS;
+use replica::{Replica, SLOTS};
 
 /// What a bench keeps besides its register and its service: the operations stamped, and every
 /// replica. There is room for 16 replicas; those that the bench has not got stay as they were at the
@@ -17,7 +12,7 @@ pub(crate) const REPLICAS: usize = 16;
 pub struct Status {
     pub(crate) operations: ArrayVec<u64, SLOTS>,
     // An array of plain structs, one of which is lent to be changed.
-    pub(crate) replicas: [Replica; REPLICAS],
+    pub(crate) replicas: [Replica; SIGNERS],
 }
 
 impl Status {

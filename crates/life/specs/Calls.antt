@@ -1,8 +1,8 @@
 -- Calls, turns and outcomes of code, as the rules have them.
 --   call_of c                — the call c, as the rules have it
 --   calls_of ts              — the calls of the turns ts, in order
---   told o                   — the outcome o, without its witnesses
---   told_in t                — the outcome that stands in the turn t, if one does
+--   without_witnesses o      — the outcome o as the rules have it, without its witnesses
+--   outcome_in t             — the outcome that stands in the turn t, if one does, likewise
 --   granted_or_refused a     — a grant or a refusal as an outcome
 --   certificate_outcome a w  — the outcome of a certificate call that answered a and left the bytes w
 use Rattle.std.specs.Prelude.{ℕ, Bool, true, false, List, map, Ok, Err, Option, Result, option_map}
@@ -36,14 +36,14 @@ call_of (call.NoOp b v s) = rules.AskNoOp b v s
 abbrev pub calls_of : List Turn → List rules.Call
 calls_of ts = map (λ t. call_of t.call) ts
 
-abbrev pub told : Outcome → rules.Outcome
-told Granted = rules.Granted
-told (Yes w) = rules.Yes
-told No = rules.No
-told (Refused e) = rules.Refused e
+abbrev pub without_witnesses : Outcome → rules.Outcome
+without_witnesses Granted = rules.Granted
+without_witnesses (Yes w) = rules.Yes
+without_witnesses No = rules.No
+without_witnesses (Refused e) = rules.Refused e
 
-abbrev pub told_in : Turn → Option rules.Outcome
-told_in t = option_map told t.outcome
+abbrev pub outcome_in : Turn → Option rules.Outcome
+outcome_in t = option_map without_witnesses t.outcome
 
 abbrev pub granted_or_refused : Answer → Outcome
 granted_or_refused (Ok _) = Granted

@@ -1,6 +1,5 @@
 -- What running a life of a bench comes to.
 --   WitnessesOf y k r w       — the bytes w are q different replicas, under each of which one of the first k calls of the life y entered the statement r, and then zeros
---   Witnessed y k c w         — the bytes w are such witnesses of what the certificate call c asks for, in the place k of the life y; no other call has witnesses
 --   CameOf y k t              — the turn t, in the place k of the life y, has what came of its call
 --   Lived y b a z             — the life y was run: the turns b became the turns a, and z is the state at its end
 --   life_of u V n ts o        — the life of a bench u with the service V, over an empty register with n free places, with the calls of the turns ts; o says that its open is granted
@@ -9,7 +8,6 @@
 -- The law of the life is OneLedger, in specs/Law.antt of protocol; the rules as a relation are in its specs/Steps.antt and specs/Rules.antt.
 use Rattle.std.specs.Prelude.{◌≡◌, ℕ, ◌≤◌, true, List, length, take, Some, Ok, Err, Result, slice_get, slice_index}
 use Rattle.refusal.specs.declared.Refusal.{Refusal}
-use Rattle.record.specs.Statements.{reply_by, commit_by}
 use Rattle.record.specs.declared.Record.{Record}
 use Rattle.register.specs.Sets.{Set}
 use Rattle.protocol.specs.Setup.{Setup, quorum_size}
@@ -23,7 +21,7 @@ use Rattle.protocol.specs.Steps.{KeepsRules, RefusesOwnOrFull}
 use Rattle.bench.specs.States.{status_state}
 use Rattle.bench.specs.Setups.{OpenGranted, OpenRefused}
 use Rattle.bench.specs.declared.status.Status.{Status}
-use Rattle.life.specs.Calls.{call_of, calls_of, told_in}
+use Rattle.life.specs.Calls.{call_of, calls_of, outcome_in}
 use Rattle.life.specs.declared.call.Outcome.TheVariants.{Yes}
 use Rattle.life.specs.declared.call.Turn.{Turn}
 
@@ -32,16 +30,13 @@ pub record WitnessesOf (y : Life) (k : ℕ) (r : Record) (w : List ℕ) : Type 0
   pub first : signers.who ≡ take (quorum_size y.bench) w
   pub others : (j : ℕ) → quorum_size y.bench ≤ j → slice_index w j ≡ 0
 
-abbrev pub Witnessed : Life → ℕ → rules.Call → List ℕ → Type 0
-Witnessed y k (rules.AskAnswer b v s w a) ws = WitnessesOf y k (reply_by 0 v s w a) ws
-Witnessed y k (rules.AskNoOp b v s) ws = WitnessesOf y k (commit_by 0 v s 1) ws
-Witnessed y k c ws = ⊥
-
 pub record CameOf (y : Life) (k : ℕ) (t : Turn) : Type 0 where
   -- the outcome that the rules give
-  pub outcome : told_in t ≡ slice_get (outcomes_of y) k
-  -- and, where it is yes, witnesses
-  pub witnesses : (w : List ℕ) → t.outcome ≡ Some (Yes w) → Witnessed y k (call_of t.call) w
+  pub outcome : outcome_in t ≡ slice_get (outcomes_of y) k
+  -- and, where it is yes, witnesses of what the call asks for
+  pub witnesses :
+      (w : List ℕ) (r : Record) → t.outcome ≡ Some (Yes w) → rules.asks_for (call_of t.call) ≡ Some r
+      → WitnessesOf y k r w
 
 pub record Lived (y : Life) (before after : List Turn) (z : State) : Type 0 where
   -- the calls are as they were
@@ -50,7 +45,7 @@ pub record Lived (y : Life) (before after : List Turn) (z : State) : Type 0 wher
   pub came : (k : ℕ) (t : Turn) → slice_get after k ≡ Some t → CameOf y k t
   -- the bench ends in the state to which the rules bring it
   pub state : z ≡ state_at y (length y.calls)
-  -- at every step each call that could be put next keeps the rules of the replicas; and where the service answers 64 bits, it is refused, if at all, on its own grounds or since the register is full
+  -- at every step each call that could be put next keeps the rules of the replicas, and is refused, if at all, on its own grounds or since the register is full
   pub rules : KeepsRules y
   pub refusals : RefusesOwnOrFull y
   -- and the life keeps one ledger

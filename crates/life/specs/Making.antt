@@ -1,49 +1,66 @@
 -- Calls while a life runs: what making one comes to, and what is known once the first of them are made.
---   Backed n q p w              — w has at least q numbers; the first q are different, are below n and pass the test p, and the others are 0
---   Backs u x c w               — the bytes w are a quorum that said what the certificate call c asks for, in the state x of a bench u; no other call has such
---   Makes u V x c o y           — the call c was made on a bench u with the service V in the state x; o came of it, and y is the state then
---   Keeps kind_of b c           — the bench c has the setup of the bench b, the register and the service that were lent to it, and a service of the same kind
---   Made u V x cs j t           — the turn t has what came of the call in the place j of the calls cs, which were made in turn from the state x
---   Underway u V x cs k ts y    — of the turns ts, with the calls cs, the first k were made from the state x, and y is the state then
+-- Throughout, g tells what a register of the bench's type holds, how many places are free, and what its memory is; h tells what a service of its type answers.
+--   Backed m p w                 — w has at least a quorum of the membership m; the first numbers, as many as a quorum, are different, are below m.replicas and pass the test p, and the others are 0
+--   Keeps h old new              — the bench new has the setup of the bench old, the register and the service that were lent to it, and a service of the same kind
+--   Makes g h old c o new        — the call c was made on the bench old; o came of it, and the bench is new then
+--   Made u V x cs j t            — the turn t has what came of the call in the place j of the calls cs, which were made in turn from the state x of a bench u with the service V
+--   Underway g h old cs k ts new — of the turns ts, with the calls cs, the first k were made on the bench old, which is new then
 use Rattle.std.specs.Prelude.{◌≡◌, ℕ, ◌<◌, ◌≤◌, Bool, List, length, take, Some, slice_get}
-use Rattle.record.specs.Statements.{reply_by, commit_by}
+use Rattle.std.specs.List.{fold}
+use Rattle.record.specs.declared.Record.{Record}
+use Rattle.service.specs.declared.Service as service
+use Rattle.register.specs.declared.Register as register
 use Rattle.quorum.specs.Quorums.{said, Witnesses}
-use Rattle.protocol.specs.Setup.{Setup, replicas, quorum_size}
+use Rattle.quorum.specs.declared.Membership.{Membership}
+use Rattle.protocol.specs.Setup.{Setup, members}
 use Rattle.protocol.specs.Service.{Service}
-use Rattle.protocol.specs.State.{State}
+use Rattle.protocol.specs.State.{State, addition_to}
 use Rattle.protocol.specs.Call as rules
-use Rattle.protocol.specs.Life.{run, outcomes}
+use Rattle.protocol.specs.Life.{run, outcomes, additions}
+use Rattle.bench.specs.Setups.{setup_of}
+use Rattle.bench.specs.States.{service_of, kind_of, state_of, meaning_of}
 use Rattle.bench.specs.declared.open.Bench.{Bench}
-use Rattle.life.specs.Calls.{call_of, calls_of, told, told_in}
+use Rattle.life.specs.Calls.{call_of, calls_of, without_witnesses, outcome_in}
 use Rattle.life.specs.declared.call.Outcome.{Outcome}
 use Rattle.life.specs.declared.call.Outcome.TheVariants.{Yes}
 use Rattle.life.specs.declared.call.Turn.{Turn}
 
-abbrev pub Backed : (n q : ℕ) → (ℕ → Bool) → List ℕ → Type 0
-Backed n q p ws = (q ≤ length ws) × Witnesses n q p ws
+abbrev pub Backed : Membership → (ℕ → Bool) → List ℕ → Type 0
+Backed m p w = (m.quorum ≤ length w) × Witnesses m.replicas m.quorum p w
 
-abbrev pub Backs : Setup → State → rules.Call → List ℕ → Type 0
-Backs u x (rules.AskAnswer b v s w a) ws = Backed (replicas u) (quorum_size u) (said x.held (reply_by 0 v s w a)) ws
-Backs u x (rules.AskNoOp b v s) ws = Backed (replicas u) (quorum_size u) (said x.held (commit_by 0 v s 1)) ws
-Backs u x c ws = ⊥
-
-pub record Makes (u : Setup) (V : Service) (x : State) (c : rules.Call) (o : Outcome) (y : State) : Type 0 where
-  pub outcome : told o ≡ (rules.meaning u V x c).outcome
-  pub after : y ≡ (rules.meaning u V x c).after
-  pub witnesses : (w : List ℕ) → o ≡ Yes w → Backs u x c w
-
-pub record Keeps {R S A : Type 0} (kind_of : S → A) (b c : Bench R S) : Type 0 where
-  pub setup : c.setup ≡ b.setup
-  pub register : c.register.ghost_name ≡ b.register.ghost_name
-  pub service : c.service.ghost_name ≡ b.service.ghost_name
-  pub kind : kind_of c.service.now ≡ kind_of b.service.now
+pub record Keeps {R S : Type 0} (h : service.Ghosts S) (old new : Bench R S) : Type 0 where
+  pub setup : new.setup ≡ old.setup
+  pub register : new.register.ghost_name ≡ old.register.ghost_name
+  pub service : new.service.ghost_name ≡ old.service.ghost_name
+  pub kind : kind_of h new.service.now ≡ kind_of h old.service.now
 
 pub record Made (u : Setup) (V : Service) (x : State) (cs : List rules.Call) (j : ℕ) (t : Turn) : Type 0 where
-  pub outcome : told_in t ≡ slice_get (outcomes u V x cs) j
-  pub witnesses : (w : List ℕ) → t.outcome ≡ Some (Yes w) → Backs u (run u V x (take j cs)) (call_of t.call) w
+  pub outcome : outcome_in t ≡ slice_get (outcomes u V x cs) j
+  pub witnesses :
+      (w : List ℕ) (r : Record) → t.outcome ≡ Some (Yes w) → rules.asks_for (call_of t.call) ≡ Some r
+      → Backed (members u) (said (run u V x (take j cs)).held r) w
 
-pub record Underway
-    (u : Setup) (V : Service) (x : State) (cs : List rules.Call) (k : ℕ) (ts : List Turn) (y : State) : Type 0 where
-  pub calls : calls_of ts ≡ cs
-  pub made : (j : ℕ) (t : Turn) → j < k → slice_get ts j ≡ Some t → Made u V x cs j t
-  pub state : y ≡ run u V x (take k cs)
+module _ {R S : Type 0} (g : register.Ghosts R) (h : service.Ghosts S) (old : Bench R S) where
+  pub record Makes (c : rules.Call) (o : Outcome) (new : Bench R S) : Type 0 where
+    pub outcome : without_witnesses o ≡ (meaning_of g h old c).outcome
+    pub after : state_of g new ≡ (meaning_of g h old c).after
+    pub memory :
+        g.memory new.register.now
+        ≡ fold g.stores (g.memory old.register.now) (addition_to (state_of g old) (meaning_of g h old c).enters)
+    pub witnesses :
+        (w : List ℕ) (r : Record) → o ≡ Yes w → rules.asks_for c ≡ Some r
+        → Backed (members (setup_of old.setup)) (said (state_of g old).held r) w
+    pub keeps : Keeps h old new
+
+  pub record Underway (cs : List rules.Call) (k : ℕ) (ts : List Turn) (new : Bench R S) : Type 0 where
+    pub calls : calls_of ts ≡ cs
+    pub made :
+        (j : ℕ) (t : Turn) → j < k → slice_get ts j ≡ Some t
+        → Made (setup_of old.setup) (service_of h old.service.now) (state_of g old) cs j t
+    pub state :
+        state_of g new ≡ run (setup_of old.setup) (service_of h old.service.now) (state_of g old) (take k cs)
+    pub memory :
+        g.memory new.register.now
+        ≡ fold g.stores (g.memory old.register.now)
+        (additions (setup_of old.setup) (service_of h old.service.now) (state_of g old) (take k cs))
+    pub keeps : Keeps h old new

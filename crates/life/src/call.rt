@@ -2,8 +2,7 @@
 ghost use Rattle.std.specs.Prelude.{◌≡◌, None};
 ghost use Rattle.life.specs.Calls.{granted_or_refused};
 
-use quorum::SIGNERS;
-use record::Record;
+use record::{Record, SIGNERS};
 use refusal::Refusal;
 use replica::Verdict;
 

@@ -1,16 +1,12 @@
 //! Making one call.
 ghost use Rattle.std.specs.Prelude.{◌≡◌};
-ghost use Rattle.protocol.specs.Call.{AskAnswer, AskNoOp, meaning};
-ghost use Rattle.bench.specs.Setups.{setup_of};
-ghost use Rattle.std.specs.List.{fold};
-ghost use Rattle.protocol.specs.State.{added_to};
-ghost use Rattle.bench.specs.States.{service_of, state_of};
+ghost use Rattle.protocol.specs.Call.{AskAnswer, AskNoOp};
 ghost use Rattle.life.specs.Calls.{call_of, certificate_outcome};
-ghost use Rattle.life.specs.Making.{Makes, Keeps};
+ghost use Rattle.life.specs.Making.{Makes};
 
 use crate::call::{Call, Outcome};
 use bench::Bench;
-use quorum::SIGNERS;
+use record::SIGNERS;
 use refusal::Refusal;
 use register::Register;
 use service::Service;
@@ -35,7 +31,8 @@ fn ask_answer<R: Register, S: Service>(
     word: u64,
     value: u64,
 ) -> Outcome
-    ensures { Makes (setup_of bench.now.setup) (service_of S.fresh S.next S.answer (S.state bench.now.service.now)) (state_of R.held R.free bench.now) (AskAnswer room view slot word value) result (state_of R.held R.free bench.now) }
+    ensures { let call = AskAnswer room view slot word value in
+        Makes R.Register S.Service bench.now call result bench.now }
 {
     let mut witnesses = [0; SIGNERS];
     let offered = &mut witnesses[..room.min(SIGNERS as u64) as usize];
@@ -50,7 +47,7 @@ fn ask_no_op<R: Register, S: Service>(
     view: u64,
     slot: u64,
 ) -> Outcome
-    ensures { Makes (setup_of bench.now.setup) (service_of S.fresh S.next S.answer (S.state bench.now.service.now)) (state_of R.held R.free bench.now) (AskNoOp room view slot) result (state_of R.held R.free bench.now) }
+    ensures { Makes R.Register S.Service bench.now (AskNoOp room view slot) result bench.now }
 {
     let mut witnesses = [0; SIGNERS];
     let offered = &mut witnesses[..room.min(SIGNERS as u64) as usize];
@@ -60,9 +57,7 @@ fn ask_no_op<R: Register, S: Service>(
 
 // Makes a call.
 pub(crate) fn make<R: Register, S: Service>(bench: &mut Bench<'_, R, S>, call: &Call<'_>) -> Outcome
-    ensures makes { Makes (setup_of bench.old.setup) (service_of S.fresh S.next S.answer (S.state bench.old.service.now)) (state_of R.held R.free bench.old) (call_of call.now) result (state_of R.held R.free bench.new) }
-    ensures memory { R.memory bench.new.register.now ≡ fold R.stores (R.memory bench.old.register.now) (added_to (state_of R.held R.free bench.old) (meaning (setup_of bench.old.setup) (service_of S.fresh S.next S.answer (S.state bench.old.service.now)) (state_of R.held R.free bench.old) (call_of call.now)).entry) }
-    ensures keeps { Keeps (λ s. S.fresh (S.state s)) bench.old bench.new }
+    ensures { Makes R.Register S.Service bench.old (call_of call.now) result bench.new }
 {
     match *call {
         Call::Stamp { operation } => bench.stamp(operation).into(),

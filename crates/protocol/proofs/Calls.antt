@@ -10,7 +10,7 @@ use Rattle.replica.specs.Verdicts.{verdict_number}
 use Rattle.replica.specs.declared.Replica.{Replica}
 use Rattle.replica.specs.declared.Verdict.{Verdict}
 use Rattle.replica.specs.declared.Verdict.TheVariants.{Operation, NoOp}
-use Rattle.protocol.specs.Setup.{Setup, replicas, quorum_size, foreign, leader}
+use Rattle.protocol.specs.Setup.{Setup, replicas, quorum_size, foreign, leader, change_to}
 use Rattle.merge.specs.Checks.{layout_grounds, merge_grounds}
 use Rattle.merge.specs.Merges.{merge}
 use Rattle.merge.proofs.Checking.{checked_from}
@@ -152,7 +152,7 @@ module _ (u : Setup) (V : Service) (x : State) (S : Sound u V x) where
       speaks_only u V x S (lead u x i ps n w).grounds i _
       (λ e.
       let rest = (both_granted (layout_grounds ps) _ e).1 in
-      (low i (search rules), moves.lead i ps (n, w) (record { honest = search rules; leaving = search rules }) (search rules) (checked_from _ _ _ _ _ ps (n, w) (search rules))))
+      (low i (search rules), moves.lead i ps (n, w) (record { honest = search rules; leaving = search rules }) (search rules) (checked_from _ _ ps (n, w) (search rules))))
 
   start_step : (i : ℕ) (ps : List Record) (n w : ℕ) → Kept u V x (acting x (start u x i ps n w))
   start_step i ps n w =
@@ -160,15 +160,15 @@ module _ (u : Setup) (V : Service) (x : State) (S : Sound u V x) where
       (λ e.
       let rest = (both_granted (layout_grounds ps) _ e).1 in
       let line = merge (n, w) ps in
-      let grounds = merge_grounds x.held (replicas u) (quorum_size u) (length x.stamped) (replica_at x i).target ps (n, w) in
+      let grounds = merge_grounds x.held (change_to u (length x.stamped) (replica_at x i).target) ps (n, w) in
       let led = x.held (view_start_by (leader u (replica_at x i).target) (replica_at x i).target line.0 line.1) in
-      let both : is_ok (and_then grounds (unless led ViewStartMissing 0 (Ok tt))) ≡ true = search rules in
+      let both : is_ok (and_then grounds (unless {A = Unit {0}} led ViewStartMissing 0 (Ok tt))) ≡ true = search rules in
       let parts = both_granted grounds _ both in
       let merges = parts.0 in
       let leads = parts.1 in (
         low i (search rules),
         moves.start i ps (n, w) (record { honest = search rules; leaving = search rules }) (search rules) (search rules)
-            (checked_from _ _ _ _ _ ps (n, w) merges),
+            (checked_from _ _ ps (n, w) merges),
       ))
 
   -- every call is a step of the rules

@@ -10,7 +10,7 @@ use Rattle.record.proofs.Same.{same_decides, same_refl}
 use Rattle.quorum.specs.Quorums.{said, signed_by}
 use Rattle.protocol.specs.Setup.{Setup, replicas, quorum_size, QuorumSaid}
 use Rattle.protocol.specs.Service.{Service, book}
-use Rattle.protocol.specs.State.{State, Action, opened, entry_answer, answer_to, held_with}
+use Rattle.protocol.specs.State.{State, Action, opened, register_answer, answer_to, held_with}
 use Rattle.protocol.specs.Stamp.{stamp}
 use Rattle.protocol.specs.Deliver.{deliver}
 use Rattle.protocol.specs.Find.{find}
@@ -27,7 +27,7 @@ use Rattle.protocol.specs.Start.{start}
 use Rattle.protocol.specs.Enter.{enter}
 use Rattle.protocol.specs.Rules.{Said}
 use Rattle.protocol.specs.Call.{Call, Outcome, Meaning, Stamp, Deliver, Find, Drop, Decide, Prepare, Commit, Settle, Reply, Leave, Forge, Lead, Start, Enter, AskAnswer, AskNoOp, acting, meaning}
-use Rattle.protocol.specs.Life.{Life, run, outcomes, Enters, state_at}
+use Rattle.protocol.specs.Life.{Life, run, outcomes, EnteredBy, state_at}
 use Rattle.protocol.specs.Law.{Entered, Signers}
 use Rattle.protocol.proofs.Books.{Grown, grown_refl, book_push}
 use Rattle.protocol.proofs.Signing.{count_of_list, list_of_count, different}
@@ -35,14 +35,14 @@ use Rattle.protocol.proofs.Stepping.{entered_held}
 use Rattle.refusal.proofs.Granted.{both_granted}
 
 pub record Effect (x : State) (m : Meaning) : Type 0 where
-  pub held : (r : Record) → (Said x.held r) ⊎ (m.entry ≡ Some r) → Said m.after.held r
-  pub only : (r : Record) → Said m.after.held r → (Said x.held r) ⊎ (m.entry ≡ Some r)
+  pub held : (r : Record) → (Said x.held r) ⊎ (m.enters ≡ Some r) → Said m.after.held r
+  pub only : (r : Record) → Said m.after.held r → (Said x.held r) ⊎ (m.enters ≡ Some r)
   pub grown : Grown (book x.stamped) (book m.after.stamped)
 
 module _ (x : State) where
   -- what the register holds after a granted call that says o
   held_with_all :
-      (o : Option Record) → is_ok (entry_answer x o) ≡ true → (r : Record) → (Said x.held r) ⊎ (o ≡ Some r)
+      (o : Option Record) → is_ok (register_answer x o) ≡ true → (r : Record) → (Said x.held r) ⊎ (o ≡ Some r)
       → Said (held_with x o) r
   held_with_all None ok r (inl h) = h
   held_with_all None ok r (inr e) = cc
@@ -54,7 +54,7 @@ module _ (x : State) where
       ∙ or_right (x.held r) (same q r) (subst (λ (z : Record). same q z ≡ true) t (same_refl q))
 
   held_with_only :
-      (o : Option Record) → is_ok (entry_answer x o) ≡ true → (r : Record) → Said (held_with x o) r
+      (o : Option Record) → is_ok (register_answer x o) ≡ true → (r : Record) → Said (held_with x o) r
       → (Said x.held r) ⊎ (o ≡ Some r)
   held_with_only None ok r h = inl h
   held_with_only (Some q) ok r h =
@@ -64,7 +64,7 @@ module _ (x : State) where
       ]
 
   -- a call that changes nothing
-  nothing_new : (o : Outcome) (g : Answer) → Effect x (record { outcome = o; own = g; after = x; entry = None })
+  nothing_new : (o : Outcome) (g : Answer) → Effect x (record { outcome = o; own = g; after = x; enters = None })
   nothing_new o g =
       record {
         held = λ r h. elim h [ inl s ↦ s | inr e ↦ cc ];
@@ -75,8 +75,8 @@ module _ (x : State) where
   -- a call that changes the state to y and enters s if b, else nothing
   effect_if :
       (b : Bool) (o : Outcome) (g : Answer) (y : State) (s : Option Record)
-      → (b ≡ true → Effect x (record { outcome = o; own = g; after = y; entry = s }))
-      → Effect x (record { outcome = o; own = g; after = cond b y x; entry = cond b s None })
+      → (b ≡ true → Effect x (record { outcome = o; own = g; after = y; enters = s }))
+      → Effect x (record { outcome = o; own = g; after = cond b y x; enters = cond b s None })
   effect_if true o g y s h = h refl
   effect_if false o g y s h = nothing_new o g
 
@@ -85,7 +85,7 @@ module _ (x : State) where
   acts a g =
       effect_if (is_ok (answer_to x a)) _ _ _ a.says
       (λ e.
-      let ok = (both_granted a.grounds (entry_answer x a.says) e).1 in
+      let ok = (both_granted a.grounds (register_answer x a.says) e).1 in
       record { held = held_with_all a.says ok; only = held_with_only a.says ok; grown = g })
 
   -- a call that stamps nothing
@@ -114,7 +114,7 @@ module _ (u : Setup) (V : Service) where
   -- ---- what the register holds after calls
 
   held_after_calls :
-      (cs : List Call) (x : State) (r : Record) → (Said x.held r) ⊎ Enters u V x cs r → Said (run u V x cs).held r
+      (cs : List Call) (x : State) (r : Record) → (Said x.held r) ⊎ EnteredBy u V x cs r → Said (run u V x cs).held r
   held_after_calls [] x r (inl h) = h
   held_after_calls [] x r (inr e) = absurd e
   held_after_calls (c ∷ cs) x r (inl h) =
@@ -124,7 +124,7 @@ module _ (u : Setup) (V : Service) where
   held_after_calls (c ∷ cs) x r (inr (inr e)) = held_after_calls cs (meaning u V x c).after r (inr e)
 
   only_by_calls :
-      (cs : List Call) (x : State) (r : Record) → Said (run u V x cs).held r → (Said x.held r) ⊎ Enters u V x cs r
+      (cs : List Call) (x : State) (r : Record) → Said (run u V x cs).held r → (Said x.held r) ⊎ EnteredBy u V x cs r
   only_by_calls [] x r h = inl h
   only_by_calls (c ∷ cs) x r h = elim (only_by_calls cs (meaning u V x c).after r h) [
     | inl s ↦ elim ((effect x c).only r s) [ inl t ↦ inl t | inr e ↦ inr (inl e) ]

@@ -27,7 +27,8 @@ use Rattle.replica.specs.declared.Replica.{Replica}
 use Rattle.protocol.specs.Setup.{Setup, replicas, foreign, Many, QuorumSaid}
 use Rattle.protocol.specs.Service.{Service, Book, Known, answer_at}
 use Rattle.protocol.specs.Model.{Model, stamps}
-use Rattle.protocol.specs.Rules.{Said, Started, Upto}
+use Rattle.protocol.specs.Rules.{Said, Upto}
+use Rattle.protocol.proofs.Starting.{Started}
 use Rattle.protocol.proofs.Counting.{Few}
 
 pub record Bounds (v t w : ℕ) : Type 0 where

@@ -13,8 +13,9 @@ use Rattle.replica.proofs.Words.{bit_above, one_past_over}
 use Rattle.merge.specs.Merges.{merge}
 use Rattle.protocol.specs.Setup.{Setup, foreign}
 use Rattle.protocol.specs.Service.{Service, Known}
-use Rattle.protocol.specs.Model.{Model, stamps, placed, Move, stamping, forges, becomes, says, apply, Entry}
-use Rattle.protocol.specs.Rules.{Allowed, Said, Started, rest, stamp, deliver, find, drop, decide, prepare, commit, settle, reply, leave, forge, lead, start, enter}
+use Rattle.protocol.specs.Model.{Model, stamps, placed, Move, stamping, forges, becomes, says, apply, InLayout}
+use Rattle.protocol.specs.Rules.{Allowed, Said, rest, stamp, deliver, find, drop, decide, prepare, commit, settle, reply, leave, forge, lead, start, enter}
+use Rattle.protocol.proofs.Starting.{Started}
 use Rattle.protocol.proofs.Books.{book_push, grown_refl, stamped_below}
 use Rattle.protocol.proofs.Counting.{Few, member}
 use Rattle.protocol.proofs.Saying.{added_cases, added_grows}
@@ -115,7 +116,7 @@ module _ (u : Setup) (V : Service) (m : Model) (I : Inv u V m) where
   pub slot_low : (l : ℕ) → Known (stamps m) l → l < 64
   slot_low l k = omega (arith, stamped_below m.stamped l k.0 k.1, I.short)
 
-  pub allowed_inv : (a : Move) → Allowed u V m a → Entry a → Inv u V (apply m a)
+  pub allowed_inv : (a : Move) → Allowed u V m a → InLayout a → Inv u V (apply m a)
   allowed_inv a rest v = I
   allowed_inv a (stamp op p) v = stamping_inv op p
   allowed_inv a (forge x p) v = forges_inv x p v

@@ -11,7 +11,7 @@ use Rattle.replica.specs.declared.Verdict.{Verdict}
 use Rattle.replica.specs.declared.Verdict.TheVariants.{Operation, NoOp}
 use Rattle.replica.proofs.Words.{one_past_under, one_past_most}
 use Rattle.protocol.specs.Setup.{Setup, foreign}
-use Rattle.protocol.specs.Service.{Service, Book, Known, answer_at, Short}
+use Rattle.protocol.specs.Service.{Service, Book, Known, answer_at}
 use Rattle.protocol.specs.Model.{Model, stamps, Move, rests, stamping, forges, becomes, says}
 use Rattle.protocol.specs.Rules.{Allowed, Leaves, Merging, rest, stamp, deliver, find, drop, decide, prepare, commit, settle, reply, leave, forge, lead, start, enter}
 use Rattle.protocol.proofs.Books.{all_stamped}
@@ -29,6 +29,10 @@ SaysLayout (says i r x) = i < 16 → Layout x
 verdict_small : (d : Verdict) → verdict_number d ≤ 1
 verdict_small Operation = omega arith
 verdict_small NoOp = omega arith
+
+-- the service V answers 64 bits
+abbrev pub Short : Service → Type 0
+Short V = (ops : List ℕ) (op : ℕ) → V ops op < 2 ^ 64
 
 module _ (u : Setup) (V : Service) (short : Short V) (m : Model) (I : Inv u V m) where
   answer_small : (B : Book) (w s : ℕ) → answer_at V B w s < 2 ^ 64

@@ -10,6 +10,7 @@ use Rattle.protocol.specs.Law.{OneLedger}
 use Rattle.protocol.specs.Steps.{model, KeepsRules, RefusesOwnOrFull}
 use Rattle.protocol.proofs.Invariant.{Inv}
 use Rattle.protocol.proofs.Opening.{bound_of_open, few_of_open}
+use Rattle.protocol.proofs.Layouts.{Short}
 use Rattle.protocol.proofs.Stepping.{Sound}
 use Rattle.protocol.proofs.Calls.{call_step}
 use Rattle.protocol.proofs.Keeping.{opening, opening_inv, allowed_inv}
@@ -21,7 +22,7 @@ sound_next : (u : Setup) (V : Service) (x : State) (c : Call) → Sound u V x �
 sound_next u V x c S =
     let K = call_step u V x S c in
     record {
-      inv = subst (Inv u V) (sym K.step.moves) (allowed_inv u V (model x) S.inv K.step.move K.step.allowed K.step.entry);
+      inv = subst (Inv u V) (sym K.step.moves) (allowed_inv u V (model x) S.inv K.step.move K.step.allowed K.step.in_layout);
       faults = S.faults;
       room = K.room;
     }
@@ -47,7 +48,7 @@ state_sound y k =
 pub keeps_rules : (y : Life) → KeepsRules y
 keeps_rules y k c = (call_step y.bench y.service (state_at y k) (state_sound y k) c).step
 
-pub refuses_own_or_full : (y : Life) → RefusesOwnOrFull y
+pub refuses_own_or_full : (y : Life) → Short y.service → RefusesOwnOrFull y
 refuses_own_or_full y short k c = (call_step y.bench y.service (state_at y k) (state_sound y k) c).refusals short
 
 pub one_ledger : (y : Life) → OneLedger y

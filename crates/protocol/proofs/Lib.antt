@@ -1,5 +1,6 @@
 pub mod Counting
 pub mod Books
+pub mod Starting
 pub mod Invariant
 pub mod Certificates
 pub mod Saying

@@ -13,7 +13,7 @@ use Rattle.protocol.specs.State.{opened}
 use Rattle.protocol.specs.Grounds.{reached}
 use Rattle.protocol.specs.Answer.{answer_grounds}
 use Rattle.protocol.specs.NoOp.{no_op_grounds}
-use Rattle.protocol.specs.Call.{AskAnswer, AskNoOp, Yes, No, certificate}
+use Rattle.protocol.specs.Call.{AskAnswer, AskNoOp, Yes, No, asking_outcome}
 use Rattle.protocol.specs.Life.{Life, state_at}
 use Rattle.protocol.specs.Law.{Signers, AnswerCertified, NoOpCertified, Agrees, OneLedger}
 use Rattle.protocol.specs.Steps.{model}
@@ -35,7 +35,7 @@ signers_on y j k r le s = signers_of_quorum y k r (quorum_on y j k r le (quorum_
 -- what a certificate call for r answers, where its grounds are g
 yes_of_signers :
     (y : Life) (k : ℕ) (r : Record) (g : Answer) → is_ok g ≡ true → Signers y k r
-    → certificate g (reached y.bench (state_at y k) r) ≡ Yes
+    → asking_outcome g (reached y.bench (state_at y k) r) ≡ Yes
 yes_of_signers y k r (Ok t) e s =
     cond-true (reached y.bench (state_at y k) r) Yes No
     (le-leb (quorum_size y.bench) (count (replicas y.bench) (said (state_at y k).held r)) (quorum_of_signers y k r s))
@@ -46,7 +46,7 @@ certified_if_yes true e = refl
 certified_if_yes false e = cc
 
 signers_of_yes :
-    (y : Life) (k : ℕ) (r : Record) (g : Answer) → certificate g (reached y.bench (state_at y k) r) ≡ Yes → Signers y k r
+    (y : Life) (k : ℕ) (r : Record) (g : Answer) → asking_outcome g (reached y.bench (state_at y k) r) ≡ Yes → Signers y k r
 signers_of_yes y k r (Ok t) e =
     signers_of_quorum y k r
     (leb-true (quorum_size y.bench) (count (replicas y.bench) (said (state_at y k).held r))

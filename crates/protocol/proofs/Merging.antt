@@ -14,10 +14,11 @@ use Rattle.replica.proofs.Words.{bit_above}
 use Rattle.merge.specs.Merges.{top, merged_length, merged_word, merge}
 use Rattle.merge.specs.Checks.{signers, Picked}
 use Rattle.merge.proofs.Lines.{top_over, top_below, length_base, length_picks, length_least, word_below, word_base, word_picks, word_from}
-use Rattle.protocol.specs.Setup.{Setup, replicas, quorum_size, QuorumSaid}
+use Rattle.protocol.specs.Setup.{Setup, replicas, quorum_size, QuorumSaid, change_to}
 use Rattle.protocol.specs.Service.{Service, Known}
 use Rattle.protocol.specs.Model.{Model, stamps}
-use Rattle.protocol.specs.Rules.{Said, Started, Merging}
+use Rattle.protocol.specs.Rules.{Said, Merging}
+use Rattle.protocol.proofs.Starting.{Started}
 use Rattle.protocol.proofs.Books.{known_below, all_stamped}
 use Rattle.protocol.proofs.Counting.{member}
 use Rattle.protocol.proofs.Signing.{among, among_passes, count_among}
@@ -26,7 +27,7 @@ use Rattle.protocol.proofs.Invariant.{Inv, Merged, Covers}
 use Rattle.protocol.proofs.Agreement.{started_merged, prepare_from}
 
 record Pick (u : Setup) (m : Model) (v t n w : ℕ) (p : Record) : Type 0 where
-  picked : Picked m.held (replicas u) (quorum_size u) (length m.stamped) v t p
+  picked : Picked m.held (change_to u (length m.stamped) v) t p
   layout : Layout p
   under : p.last ≤ t
   within : p.last ≡ t → p.slot ≤ n
@@ -52,7 +53,7 @@ module _ (u : Setup) (V : Service) (m : Model) (I : Inv u V m) where
     unfolding n w
     each = picks ps C.each (top_over ps) (length_picks (top ps) b.0 ps) (word_picks (top ps) b.1 ps)
       where
-        picks : (qs : List Record) → AllByRecursion (Picked m.held (replicas u) (quorum_size u) (length m.stamped) v (top ps)) qs
+        picks : (qs : List Record) → AllByRecursion (Picked m.held (change_to u (length m.stamped) v) (top ps)) qs
             → AllByRecursion (λ p. p.last ≤ top ps) qs → AllByRecursion (λ p. p.last ≡ top ps → p.slot ≤ n) qs
             → AllByRecursion (λ p. p.last ≡ top ps → (l : ℕ) → bit p.word l ≡ true → bit w l ≡ true) qs
             → AllByRecursion (Pick u m v (top ps) n w) qs

@@ -10,7 +10,8 @@ use Rattle.replica.specs.declared.Replica.{Replica}
 use Rattle.replica.proofs.Words.{bit_above}
 use Rattle.protocol.specs.Setup.{Setup}
 use Rattle.protocol.specs.Service.{Service, Book, Known}
-use Rattle.protocol.specs.Rules.{Said, Started}
+use Rattle.protocol.specs.Rules.{Said}
+use Rattle.protocol.proofs.Starting.{Started}
 use Rattle.protocol.proofs.Books.{grown_refl}
 use Rattle.protocol.proofs.Saying.{added_other, added_grows}
 use Rattle.protocol.proofs.Invariant.{Merged, Competing, Good}

@@ -9,10 +9,10 @@ use Rattle.register.specs.Sets.{Set}
 use Rattle.quorum.specs.Quorums.{said, signed_by, quorum}
 use Rattle.replica.specs.Words.{bit}
 use Rattle.replica.proofs.Words.{word_of, word_of_lt, bit_word_of, bit_mod, bit_ext, bit_above}
-use Rattle.protocol.specs.Setup.{Setup, replicas, quorum_size, foreign, QuorumSaid}
+use Rattle.protocol.specs.Setup.{Setup, replicas, quorum_size, foreign, QuorumSaid, members}
 use Rattle.protocol.specs.Service.{Service, answer_at, single, if_some}
 use Rattle.protocol.specs.Model.{Model, stamps}
-use Rattle.protocol.specs.Rules.{Started}
+use Rattle.protocol.proofs.Starting.{Started}
 use Rattle.protocol.proofs.Books.{answer_alike}
 use Rattle.protocol.proofs.Counting.{member}
 use Rattle.protocol.proofs.Invariant.{Inv, reply_of}
@@ -20,7 +20,7 @@ use Rattle.protocol.proofs.Certificates.{Certificates}
 use Rattle.protocol.proofs.Agreement.{KeepsView, InBase, quorum_layout, commit_prepare, prepare_from, answer_kept, answer_in_base, no_op_in_base}
 
 no_op_at : Setup → Set → ℕ → ℕ × ℕ → ℕ → Bool
-no_op_at u h v b l = cond (ltb l b.0) (bit b.1 l) (quorum h (replicas u) (quorum_size u) (commit_by 0 v l 1))
+no_op_at u h v b l = cond (ltb l b.0) (bit b.1 l) (quorum h (members u) (commit_by 0 v l 1))
 
 record Latest (u : Setup) (m : Model) (k : ℕ) : Type 0 where
   view : ℕ
@@ -30,7 +30,7 @@ record Latest (u : Setup) (m : Model) (k : ℕ) : Type 0 where
 
 module _ (u : Setup) (V : Service) (m : Model) (I : Inv u V m) where
   no_op_above :
-      (v : ℕ) (b : ℕ × ℕ) (l : ℕ) → b.0 ≤ l → no_op_at u m.held v b l ≡ quorum m.held (replicas u) (quorum_size u) (commit_by 0 v l 1)
+      (v : ℕ) (b : ℕ × ℕ) (l : ℕ) → b.0 ≤ l → no_op_at u m.held v b l ≡ quorum m.held (members u) (commit_by 0 v l 1)
   unfolding no_op_at
   no_op_above v b l h = cond-false (ltb l b.0) _ _ (le-ltb l b.0 h)
 

@@ -10,7 +10,8 @@ use Rattle.record.specs.Same.{same}
 use Rattle.register.specs.Sets.{Set, added}
 use Rattle.quorum.specs.Quorums.{said}
 use Rattle.protocol.specs.Setup.{Setup, QuorumSaid}
-use Rattle.protocol.specs.Rules.{Said, Started}
+use Rattle.protocol.specs.Rules.{Said}
+use Rattle.protocol.proofs.Starting.{Started}
 use Rattle.protocol.proofs.Counting.{many_mono}
 use Rattle.protocol.proofs.Invariant.{Unique, Competing, Once}
 

@@ -19,14 +19,14 @@ use Rattle.register.specs.Sets.{Set, added, adds, entering, held_after}
 use Rattle.replica.specs.Replicas.{initial}
 use Rattle.replica.specs.declared.Replica.{Replica}
 use Rattle.protocol.specs.Setup.{Setup}
-use Rattle.protocol.specs.Service.{Service, Short}
-use Rattle.protocol.specs.State.{State, replica_at, Action, entry_answer, answer_to, held_with, free_with}
-use Rattle.protocol.specs.Call.{Meaning, Refused, outcome_of, certificate, acting, asking}
-use Rattle.protocol.specs.Model.{placed, Move, rests, stamping, forges, becomes, says, apply, Entry}
+use Rattle.protocol.specs.Service.{Service}
+use Rattle.protocol.specs.State.{State, replica_at, Action, register_answer, answer_to, held_with, free_with}
+use Rattle.protocol.specs.Call.{Meaning, Refused, acting_outcome, asking_outcome, acting, asking}
+use Rattle.protocol.specs.Model.{placed, Move, rests, stamping, forges, becomes, says, apply, InLayout}
 use Rattle.protocol.specs.Rules.{Allowed, rest}
-use Rattle.protocol.specs.Steps.{model, Step, OwnOrFull}
+use Rattle.protocol.specs.Steps.{model, MovesByRules, OwnOrFull}
 use Rattle.protocol.proofs.Invariant.{Inv}
-use Rattle.protocol.proofs.Layouts.{allowed_layout}
+use Rattle.protocol.proofs.Layouts.{Short, allowed_layout}
 
 pub record Sound (u : Setup) (V : Service) (x : State) : Type 0 where
   pub inv : Inv u V (model x)
@@ -34,11 +34,11 @@ pub record Sound (u : Setup) (V : Service) (x : State) : Type 0 where
   pub room : length x.replicas ≡ 16
 
 record Moved (u : Setup) (V : Service) (x y : State) : Type 0 where
-  step : Step u V x y
+  step : MovesByRules u V x y
   room : length y.replicas ≡ 16
 
 pub record Kept (u : Setup) (V : Service) (x : State) (m : Meaning) : Type 0 where
-  pub step : Step u V x m.after
+  pub step : MovesByRules u V x m.after
   pub room : length m.after.replicas ≡ 16
   pub refusals : Short V → OwnOrFull m
 
@@ -46,11 +46,11 @@ pub record Kept (u : Setup) (V : Service) (x : State) (m : Meaning) : Type 0 whe
 own_or_full : (x : State) (a : Action) → (is_ok a.grounds ≡ true → (r : Record) → a.says ≡ Some r → Layout r) → OwnOrFull (acting x a)
 own_or_full x a f = record { either = by_grounds a.grounds a.says f }
   where
-    full : (r : Record) → Layout r → (e : Refusal) → outcome_of (entering x.held x.free r) ≡ Refused e → e ≡ refused RegisterFull 0
+    full : (r : Record) → Layout r → (e : Refusal) → acting_outcome (entering x.held x.free r) ≡ Refused e → e ≡ refused RegisterFull 0
     full r l e h = let k = layout_to r l in grind (arith, nat_tests)
 
     by_grounds : (g : Answer) (o : Option Record) → (is_ok g ≡ true → (r : Record) → o ≡ Some r → Layout r) → (e : Refusal)
-        → outcome_of (and_then g (entry_answer x o)) ≡ Refused e → (g ≡ Err e) ⊎ (e ≡ refused RegisterFull 0)
+        → acting_outcome (and_then g (register_answer x o)) ≡ Refused e → (g ≡ Err e) ⊎ (e ≡ refused RegisterFull 0)
     by_grounds (Err e') o f e h = inl cc
     by_grounds (Ok t) None f e h = cc
     by_grounds (Ok t) (Some r) f e h = inr (full r (f refl r refl) e h)
@@ -104,13 +104,13 @@ some_same h = cc
 
 module _ (u : Setup) (V : Service) (x : State) (S : Sound u V x) where
   stays : Moved u V x x
-  stays = record { step = record { move = rests; allowed = rest; entry = tt; moves = refl }; room = S.room }
+  stays = record { step = record { move = rests; allowed = rest; in_layout = tt; moves = refl }; room = S.room }
 
   -- a call that only asks
   pub asks : (a : Answer) (b : Bool) → Kept u V x (asking x a b)
   asks a b = record { step = stays.step; room = S.room; refusals = λ _. record { either = own a b } }
     where
-      own : (a : Answer) (b : Bool) (e : Refusal) → certificate a b ≡ Refused e → (a ≡ Err e) ⊎ (e ≡ refused RegisterFull 0)
+      own : (a : Answer) (b : Bool) (e : Refusal) → asking_outcome a b ≡ Refused e → (a ≡ Err e) ⊎ (e ≡ refused RegisterFull 0)
       own (Err e') b e h = inl cc
       own (Ok t) true e h = cc
       own (Ok t) false e h = cc
@@ -120,16 +120,16 @@ module _ (u : Setup) (V : Service) (x : State) (S : Sound u V x) where
 
   -- a call that does what a says, which is the move v
   acts :
-      (a : Action) (v : Move) → (is_ok a.grounds ≡ true → Allowed u V (model x) v) → (is_ok (entry_answer x a.says) ≡ true → Entry v)
-      → (is_ok a.grounds ≡ true → is_ok (entry_answer x a.says) ≡ true → model (granted a) ≡ apply (model x) v) → length a.replicas ≡ 16
+      (a : Action) (v : Move) → (is_ok a.grounds ≡ true → Allowed u V (model x) v) → (is_ok (register_answer x a.says) ≡ true → InLayout v)
+      → (is_ok a.grounds ≡ true → is_ok (register_answer x a.says) ≡ true → model (granted a) ≡ apply (model x) v) → length a.replicas ≡ 16
       → (Short V → is_ok a.grounds ≡ true → (r : Record) → a.says ≡ Some r → Layout r) → Kept u V x (acting x a)
   unfolding granted
-  acts a v allowed entry moves room layout =
+  acts a v allowed in_layout moves room layout =
       let M =
       cond_both (is_ok (answer_to x a)) _ x (λ (z : State). Moved u V x z)
       (λ e.
-      let both = both_granted a.grounds (entry_answer x a.says) e in
-      record { step = record { move = v; allowed = allowed both.0; entry = entry both.1; moves = moves both.0 both.1 }; room = room })
+      let both = both_granted a.grounds (register_answer x a.says) e in
+      record { step = record { move = v; allowed = allowed both.0; in_layout = in_layout both.1; moves = moves both.0 both.1 }; room = room })
       (λ _. stays) in
       record { step = M.step; room = M.room; refusals = λ s. own_or_full x a (layout s) }
 

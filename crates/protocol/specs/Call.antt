@@ -1,20 +1,22 @@
 -- The calls of a bench after its open, and what each comes to.
---   Call               — a call with its arguments, in the order of the documents; a certificate call names the bytes of the witness buffer it offers
+--   Call               — a call with its arguments, in the order of docs/PROTOCOL.md; a certificate call names the bytes of the witness buffer it offers
+--   asks_for c         — the statement that the call c asks for, each signer's number standing for the one in it, if c is a certificate call
 --   Outcome            — what came of a call: granted, yes, no, or refused
---   outcome_of a       — a grant or a refusal as an outcome
---   certificate a b    — the outcome of a certificate call with the grounds a, where b tells whether it is certified
---   Meaning            — what a call comes to: its outcome, what its own grounds answer, before the register is asked, the state after it, and the statement that it entered, if any
+--   acting_outcome a   — a grant or a refusal as an outcome
+--   asking_outcome a b — the outcome of a certificate call with the grounds a, where b tells whether it is certified
+--   Meaning            — what a call comes to: its outcome, what its own grounds answer, before the register is asked, the state after it, and the statement that it enters, if any
 --   acting x a         — the meaning of a call that does what a says
 --   asking x a b       — the meaning of a certificate call with the grounds a, where b tells whether it is certified; it changes nothing
 --   meaning u V x c    — the meaning of the call c, on a bench u with the service V in the state x
-use Rattle.std.specs.Prelude.{ℕ, Bool, cond, List, None, Ok, Err, Option}
+use Rattle.std.specs.Prelude.{ℕ, Bool, cond, List, Some, None, Ok, Err, Option}
 use Rattle.refusal.specs.Grounds.{Answer}
 use Rattle.refusal.specs.declared.Refusal.{Refusal}
+use Rattle.record.specs.Statements.{reply_by, commit_by}
 use Rattle.record.specs.declared.Record.{Record}
 use Rattle.replica.specs.declared.Verdict.{Verdict}
 use Rattle.protocol.specs.Setup.{Setup}
 use Rattle.protocol.specs.Service.{Service}
-use Rattle.protocol.specs.State.{State, Action, answer_to, state_after, entry_of}
+use Rattle.protocol.specs.State.{State, Action, answer_to, state_after, statement_of}
 use Rattle.protocol.specs.Stamp.{stamp}
 use Rattle.protocol.specs.Deliver.{deliver}
 use Rattle.protocol.specs.Find.{find}
@@ -50,32 +52,37 @@ pub data Call : Type 0 where
   AskAnswer : (room view slot word result : ℕ) → Call
   AskNoOp : (room view slot : ℕ) → Call
 
+abbrev pub asks_for : Call → Option Record
+asks_for (AskAnswer b v s w a) = Some (reply_by 0 v s w a)
+asks_for (AskNoOp b v s) = Some (commit_by 0 v s 1)
+asks_for c = None
+
 pub data Outcome : Type 0 where
   Granted : Outcome
   Yes : Outcome
   No : Outcome
   Refused : Refusal → Outcome
 
-abbrev pub outcome_of : Answer → Outcome
-outcome_of (Ok _) = Granted
-outcome_of (Err e) = Refused e
+abbrev pub acting_outcome : Answer → Outcome
+acting_outcome (Ok _) = Granted
+acting_outcome (Err e) = Refused e
 
-abbrev pub certificate : Answer → Bool → Outcome
-certificate (Ok _) b = cond b Yes No
-certificate (Err e) b = Refused e
+abbrev pub asking_outcome : Answer → Bool → Outcome
+asking_outcome (Ok _) b = cond b Yes No
+asking_outcome (Err e) b = Refused e
 
 pub record Meaning : Type 0 where
   pub outcome : Outcome
   pub own : Answer
   pub after : State
-  pub entry : Option Record
+  pub enters : Option Record
 
 abbrev pub acting : State → Action → Meaning
 acting x a =
-    record { outcome = outcome_of (answer_to x a); own = a.grounds; after = state_after x a; entry = entry_of x a }
+    record { outcome = acting_outcome (answer_to x a); own = a.grounds; after = state_after x a; enters = statement_of x a }
 
 abbrev pub asking : State → Answer → Bool → Meaning
-asking x a b = record { outcome = certificate a b; own = a; after = x; entry = None }
+asking x a b = record { outcome = asking_outcome a b; own = a; after = x; enters = None }
 
 abbrev pub meaning : Setup → Service → State → Call → Meaning
 meaning u V x (Stamp op) = acting x (stamp x op)

@@ -6,13 +6,13 @@ use Rattle.replica.specs.Replicas.{committed}
 use Rattle.replica.specs.Verdicts.{verdict_number}
 use Rattle.replica.specs.declared.Verdict.{Verdict}
 use Rattle.protocol.specs.Setup.{Setup}
-use Rattle.protocol.specs.State.{State, replica_at, with_replica, Action}
+use Rattle.protocol.specs.State.{State, replica_at, with_replica, Action, idle}
 use Rattle.protocol.specs.Grounds.{if_honest, if_stamped, if_working, if_open, if_quorum}
 
 abbrev pub commit : Setup → State → ℕ → ℕ → Verdict → Action
 commit u x i s d =
     let r = replica_at x i in
-    record {
+    record (idle x) {
       grounds =
           if_honest u i
           (if_stamped x s
@@ -20,6 +20,5 @@ commit u x i s d =
           (if_open r s
           (if_quorum u x (prepare_by 0 r.view s (verdict_number d)) (Ok tt)))));
       says = Some (commit_by i r.view s (verdict_number d));
-      stamped = x.stamped;
       replicas = with_replica x i (committed r s d);
     }

@@ -7,13 +7,13 @@ use Rattle.record.specs.Statements.{reply_by, drop_by}
 use Rattle.replica.specs.Replicas.{delivered}
 use Rattle.protocol.specs.Setup.{Setup}
 use Rattle.protocol.specs.Service.{Service, book, answer_at}
-use Rattle.protocol.specs.State.{State, replica_at, with_replica, Action}
+use Rattle.protocol.specs.State.{State, replica_at, with_replica, Action, idle}
 use Rattle.protocol.specs.Grounds.{if_honest, if_stamped, if_working, if_none}
 
 abbrev pub deliver : Setup → Service → State → ℕ → ℕ → Action
 deliver u V x i s =
     let r = replica_at x i in
-    record {
+    record (idle x) {
       grounds =
           if_honest u i
           (if_stamped x s
@@ -21,6 +21,5 @@ deliver u V x i s =
           (unless (s == r.length) SlotOrView 0
           (if_none x (drop_by i r.view s) (Ok tt)))));
       says = Some (reply_by i r.view s r.word (answer_at V (book x.stamped) r.word s));
-      stamped = x.stamped;
       replicas = with_replica x i (delivered r);
     }

@@ -3,19 +3,17 @@
 use Rattle.std.specs.Prelude.{ℕ, Some, Ok}
 use Rattle.record.specs.Statements.{find_by, drop_by}
 use Rattle.protocol.specs.Setup.{Setup, leader}
-use Rattle.protocol.specs.State.{State, replica_at, Action}
+use Rattle.protocol.specs.State.{State, replica_at, Action, idle}
 use Rattle.protocol.specs.Grounds.{if_honest, if_stamped, if_working, if_said}
 
 abbrev pub drop : Setup → State → ℕ → Action
 drop u x i =
     let r = replica_at x i in
-    record {
+    record (idle x) {
       grounds =
           if_honest u i
           (if_stamped x r.length
           (if_working r
           (if_said x (find_by (leader u r.view) r.view r.length) (Ok tt))));
       says = Some (drop_by i r.view r.length);
-      stamped = x.stamped;
-      replicas = x.replicas;
     }

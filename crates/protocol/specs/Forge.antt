@@ -1,21 +1,17 @@
 -- The call forge: a foreign replica says anything that keeps the layout.
 --   forge u x r  — the call for the record r, on a bench u in the state x
-use Rattle.std.specs.Prelude.{Some, Ok, nat_lt}
+use Rattle.std.specs.Prelude.{Some, Ok}
 use Rattle.refusal.specs.Grounds.{unless}
-use Rattle.refusal.specs.declared.Ground.TheVariants.{Layout, ReplicaNumber, Honesty}
+use Rattle.refusal.specs.declared.Ground.TheVariants.{Layout}
 use Rattle.record.specs.Layout.{keeps_layout}
 use Rattle.record.specs.declared.Record.{Record}
-use Rattle.protocol.specs.Setup.{Setup, replicas, foreign}
-use Rattle.protocol.specs.State.{State, Action}
+use Rattle.protocol.specs.Setup.{Setup}
+use Rattle.protocol.specs.State.{State, Action, idle}
+use Rattle.protocol.specs.Grounds.{if_foreign}
 
 abbrev pub forge : Setup → State → Record → Action
 forge u x r =
-    record {
-      grounds =
-          unless (keeps_layout r) Layout 0
-          (unless (nat_lt r.signer (replicas u)) ReplicaNumber 0
-          (unless (foreign u r.signer) Honesty 0 (Ok tt)));
+    record (idle x) {
+      grounds = unless (keeps_layout r) Layout 0 (if_foreign u r.signer (Ok tt));
       says = Some r;
-      stamped = x.stamped;
-      replicas = x.replicas;
     }

@@ -19,10 +19,10 @@ use Rattle.protocol.specs.Setup.{replicas, quorum_size}
 use Rattle.protocol.specs.Service.{book, single}
 use Rattle.protocol.specs.State.{opened}
 use Rattle.protocol.specs.Call.{Call, AskAnswer, AskNoOp, Yes, meaning}
-use Rattle.protocol.specs.Life.{Life, Enters, state_at, outcomes_of}
+use Rattle.protocol.specs.Life.{Life, EnteredBy, state_at, outcomes_of}
 
 abbrev pub Entered : Life → ℕ → Record → Type 0
-Entered y k r = Enters y.bench y.service (opened y.places) (take k y.calls) r
+Entered y k r = EnteredBy y.bench y.service (opened y.places) (take k y.calls) r
 
 pub record Signers (y : Life) (k : ℕ) (r : Record) : Type 0 where
   pub who : List ℕ

@@ -4,7 +4,7 @@
 --   placed f i r — the replicas f, with r for replica i
 --   Move         — what a call does to a model: nothing, it stamps an operation, a foreign replica's statement is entered, replica i becomes r, or replica i becomes r and says x
 --   apply m a    — the model m after the move a
---   Entry a      — the statement that the move a enters, if any, keeps the layout
+--   InLayout a   — the statement that the move a enters, if any, keeps the layout
 use Rattle.std.specs.Prelude.{ℕ, cond, List, [], ◌∷◌, ◌++◌, ◌==◌}
 use Rattle.record.specs.Layout.{Layout}
 use Rattle.record.specs.declared.Record.{Record}
@@ -32,14 +32,14 @@ pub data Move : Type 0 where
 
 abbrev pub apply : Model → Move → Model
 apply m rests = m
-apply m (stamping op) = record { stamped = m.stamped ++ op ∷ []; held = m.held; replica = m.replica }
-apply m (forges x) = record { stamped = m.stamped; held = added m.held x; replica = m.replica }
-apply m (becomes i r) = record { stamped = m.stamped; held = m.held; replica = placed m.replica i r }
-apply m (says i r x) = record { stamped = m.stamped; held = added m.held x; replica = placed m.replica i r }
+apply m (stamping op) = record m { stamped = m.stamped ++ op ∷ [] }
+apply m (forges x) = record m { held = added m.held x }
+apply m (becomes i r) = record m { replica = placed m.replica i r }
+apply m (says i r x) = record m { held = added m.held x; replica = placed m.replica i r }
 
-abbrev pub Entry : Move → Type 0
-Entry rests = Unit {0}
-Entry (stamping op) = Unit {0}
-Entry (forges x) = Layout x
-Entry (becomes i r) = Unit {0}
-Entry (says i r x) = Layout x
+abbrev pub InLayout : Move → Type 0
+InLayout rests = Unit {0}
+InLayout (stamping op) = Unit {0}
+InLayout (forges x) = Layout x
+InLayout (becomes i r) = Unit {0}
+InLayout (says i r x) = Layout x

@@ -5,13 +5,13 @@ use Rattle.record.specs.Statements.{decision_by, prepare_by}
 use Rattle.replica.specs.Verdicts.{verdict_number, other_verdict}
 use Rattle.replica.specs.declared.Verdict.{Verdict}
 use Rattle.protocol.specs.Setup.{Setup, leader}
-use Rattle.protocol.specs.State.{State, replica_at, Action}
+use Rattle.protocol.specs.State.{State, replica_at, Action, idle}
 use Rattle.protocol.specs.Grounds.{if_honest, if_stamped, if_working, if_open, if_none, if_said, if_dropped}
 
 abbrev pub prepare : Setup → State → ℕ → ℕ → Verdict → Action
 prepare u x i s d =
     let r = replica_at x i in
-    record {
+    record (idle x) {
       grounds =
           if_honest u i
           (if_stamped x s
@@ -21,6 +21,4 @@ prepare u x i s d =
           (if_said x (decision_by (leader u r.view) r.view s (verdict_number d))
           (if_dropped u x r.view s d (Ok tt)))))));
       says = Some (prepare_by i r.view s (verdict_number d));
-      stamped = x.stamped;
-      replicas = x.replicas;
     }

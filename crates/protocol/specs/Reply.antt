@@ -7,19 +7,17 @@ use Rattle.record.specs.Statements.{reply_by}
 use Rattle.replica.specs.Words.{bit}
 use Rattle.protocol.specs.Setup.{Setup}
 use Rattle.protocol.specs.Service.{Service, book, answer_at}
-use Rattle.protocol.specs.State.{State, replica_at, Action}
+use Rattle.protocol.specs.State.{State, replica_at, Action, idle}
 use Rattle.protocol.specs.Grounds.{if_honest, if_stamped, if_working}
 
 abbrev pub reply : Setup → Service → State → ℕ → ℕ → Action
 reply u V x i s =
     let r = replica_at x i in
-    record {
+    record (idle x) {
       grounds =
           if_honest u i
           (if_stamped x s
           (if_working r
           (unless (nat_lt s r.length && not (bit r.word s)) SlotOrView 0 (Ok tt))));
       says = Some (reply_by i r.view s (r.word % 2 ^ s) (answer_at V (book x.stamped) r.word s));
-      stamped = x.stamped;
-      replicas = x.replicas;
     }

@@ -5,7 +5,6 @@
 --   Upto b s           — every slot through s is stamped in the book b
 --   Said h x           — the statement x was said, under the signer that stands in it
 --   Dropped u h v s d  — where the verdict d is no-op, a quorum said DROP for slot s in view v
---   Started u h v b    — view v starts from the base b, a line's length and word: 0 and 0 for view 0, else a quorum said ENTRY for it
 --   Merging u m v ps b — ps are good picks for the view v over the base b, by what the model m holds
 --   Allowed u V m a    — the rules allow the move a in the model m, for a bench u with the service V
 use Rattle.std.specs.Prelude.{◌≡◌, ℕ, ◌%◌, ◌^◌, ◌<◌, ◌≤◌, true, false, List, length}
@@ -18,9 +17,9 @@ use Rattle.replica.specs.Replicas.{reach, delivered, committed, settled, left, s
 use Rattle.replica.specs.declared.Replica.{Replica}
 use Rattle.replica.specs.declared.Verdict.{Verdict}
 use Rattle.replica.specs.declared.Verdict.TheVariants.{NoOp}
-use Rattle.merge.specs.Checks.{Certified, Checked}
+use Rattle.merge.specs.Checks.{Checked}
 use Rattle.merge.specs.Merges.{merge}
-use Rattle.protocol.specs.Setup.{Setup, replicas, quorum_size, foreign, leader, QuorumSaid}
+use Rattle.protocol.specs.Setup.{Setup, foreign, leader, change_to, QuorumSaid}
 use Rattle.protocol.specs.Service.{Service, Book, Known, answer_at}
 use Rattle.protocol.specs.Model.{Model, stamps, Move, rests, stamping, forges, becomes, says}
 
@@ -46,12 +45,9 @@ Said h x = h x ≡ true
 abbrev pub Dropped : Setup → Set → (v s : ℕ) → Verdict → Type 0
 Dropped u h v s d = d ≡ NoOp → QuorumSaid u h (drop_by 0 v s)
 
-abbrev pub Started : Setup → Set → ℕ → ℕ × ℕ → Type 0
-Started u h v b = Certified h (replicas u) (quorum_size u) v b
-
 -- the picks ps with the base b are good for a view v
 abbrev pub Merging : Setup → Model → ℕ → List Record → ℕ × ℕ → Type 0
-Merging u m v ps b = Checked m.held (replicas u) (quorum_size u) (length m.stamped) v ps b
+Merging u m v ps b = Checked m.held (change_to u (length m.stamped) v) ps b
 
 pub data Allowed (u : Setup) (V : Service) (m : Model) : Move → Type 0 where
   -- a call that is refused, or only asks, moves nothing

@@ -4,7 +4,6 @@
 --   is_stamped ops l   — whether slot l is stamped
 --   Known b l          — slot l has an operation in the book b
 --   Service            — a service, by what it answers to an operation after those that it was fed since it was cleared
---   Short V            — the service V answers 64 bits
 --   listed o           — the operation o as a list, empty where there is none
 --   fed b w s          — the operations that a service is fed from slot 0 up to slot s, itself not among them: a no-op of the word w and an unstamped slot leave it as it is
 --   or_zero o          — the operation o, or 0 where there is none
@@ -13,7 +12,7 @@
 --   if_some o a        — a where there is an operation o, else nothing
 --   single V b w s     — the single service's answer for slot s along the word w, if it has one: at a no-op and at an unstamped slot it has none
 -- book, fed, answer_at and single are shut: a proof that looks inside them says so.
-use Rattle.std.specs.Prelude.{◌≡◌, ℕ, zero, suc, ◌^◌, ◌<◌, Bool, cond, List, [], ◌∷◌, ◌++◌, length, Some, None, Option, nat_lt, slice_index}
+use Rattle.std.specs.Prelude.{◌≡◌, ℕ, zero, suc, Bool, cond, List, [], ◌∷◌, ◌++◌, length, Some, None, Option, nat_lt, slice_index}
 use Rattle.replica.specs.Words.{bit}
 
 abbrev pub Book : Type 0
@@ -30,9 +29,6 @@ Known b l = (o : ℕ) × (b l ≡ Some o)
 
 abbrev pub Service : Type 0
 Service = List ℕ → ℕ → ℕ
-
-abbrev pub Short : Service → Type 0
-Short V = (ops : List ℕ) (op : ℕ) → V ops op < 2 ^ 64
 
 abbrev pub listed : Option ℕ → List ℕ
 listed (Some o) = o ∷ []

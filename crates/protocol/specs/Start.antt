@@ -8,15 +8,15 @@ use Rattle.record.specs.declared.Record.{Record}
 use Rattle.replica.specs.Replicas.{started}
 use Rattle.merge.specs.Merges.{merge}
 use Rattle.merge.specs.Checks.{layout_grounds, merge_grounds}
-use Rattle.protocol.specs.Setup.{Setup, replicas, quorum_size, leader}
-use Rattle.protocol.specs.State.{State, replica_at, with_replica, Action}
+use Rattle.protocol.specs.Setup.{Setup, leader, change_to}
+use Rattle.protocol.specs.State.{State, replica_at, with_replica, Action, idle}
 use Rattle.protocol.specs.Grounds.{if_honest, if_line, if_leaving}
 
 abbrev pub start : Setup → State → ℕ → List Record → ℕ → ℕ → Action
 start u x i ps n w =
     let r = replica_at x i in
     let line = merge (n, w) ps in
-    record {
+    record (idle x) {
       grounds =
           and_then (layout_grounds ps)
           (if_honest u i
@@ -24,10 +24,9 @@ start u x i ps n w =
           (if_leaving r
           (unless (not r.mark) Barred 0
           (and_then
-          (merge_grounds x.held (replicas u) (quorum_size u) (length x.stamped) r.target ps (n, w))
+          (merge_grounds x.held (change_to u (length x.stamped) r.target) ps (n, w))
           (unless (x.held (view_start_by (leader u r.target) r.target line.0 line.1)) ViewStartMissing 0
           (Ok tt)))))));
       says = Some (entry_by i r.target line.0 line.1);
-      stamped = x.stamped;
       replicas = with_replica x i (started r);
     }

@@ -3,5 +3,4 @@ use Rattle.bench.proofs.Feeding.{Fed}
 use Rattle.bench.proofs.answer.answer_along.Given as goal
 
 abbrev pub invariant-loop-l : goal.invariant-loop-l
-invariant-loop-l g l =
-    Fed g.S.Service.fresh g.S.Service.next (g.S.Service.state l.fn.service) (book l.operations) l.word l.l l.later (g.S.Service.state l.service)
+invariant-loop-l g l = Fed g.S.Service l.fn.service (book l.operations) l.word l.l l.later l.service

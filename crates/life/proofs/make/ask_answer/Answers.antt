@@ -1,8 +1,9 @@
 -- A certificate call, by the lemma for both.
-use Rattle.std.proofs.Common.{rules}
+use Rattle.std.proofs.Common.{refl}
 use Rattle.life.proofs.Certified.{makes_certificate}
 use Rattle.life.proofs.make.ask_answer.Goals as goal
 
 pub returns : goal.returns
 returns g c =
-    makes_certificate _ c.args.room c.answer-answer.ensures c.min.ensures c.certificate_outcome.ensures (search rules) (search rules)
+    makes_certificate g.R.Register g.S.Service _ _ _ c.args.room _ _ _ _ _ _ c.answer-answer.ensures c.min.ensures
+    c.certificate_outcome.ensures refl refl refl
