@@ -6,9 +6,10 @@
 --   high_curve          — the bits of LOAD curve 1: stages 2000 to 5000, offset 6200, slope 5
 --   read_at s           — the bits of READ at the stage s
 --   flow_after a b s    — what a fresh rating service answers to READ at the stage s after the operations a and b
+--   flows_after a b     — these answers at 2000, 2001 and 5001 millimetres
 --   grant m, draw m     — the bits of GRANT and DRAW of the amount m, on account 0
 --   balance_after os o  — what a fresh allotment service answers to the operation o after the operations os
---   picks a b c         — the VIEW-CHANGE statements of the signers 0, 1 and 2, target 1, last 0, with the reaches and words a, b and c
+--   three_picks a b c   — the VIEW-CHANGE statements of the signers 0, 1 and 2, target 1, last 0, with the reaches and words a, b and c
 use Rattle.std.specs.Prelude.{ℕ, List, [], ◌∷◌}
 use Rattle.record.specs.Bytes.{of_width, joined}
 use Rattle.record.specs.Statements.{view_change_by}
@@ -39,6 +40,9 @@ read_at stage = joined 0 (of_width 2 2 ∷ of_width 14 stage ∷ of_width 48 0 �
 abbrev pub flow_after : ℕ → ℕ → ℕ → ℕ
 flow_after a b stage = rating_answer (after rating_next [] (a ∷ b ∷ [])) (read_at stage)
 
+abbrev pub flows_after : ℕ → ℕ → List ℕ
+flows_after a b = flow_after a b 2000 ∷ flow_after a b 2001 ∷ flow_after a b 5001 ∷ []
+
 abbrev pub grant : ℕ → ℕ
 grant amount = joined 0 (of_width 2 1 ∷ of_width 4 0 ∷ of_width 32 amount ∷ of_width 26 0 ∷ [])
 
@@ -48,6 +52,6 @@ draw amount = joined 0 (of_width 2 2 ∷ of_width 4 0 ∷ of_width 32 amount ∷
 abbrev pub balance_after : List ℕ → ℕ → ℕ
 balance_after ops op = allotment_answer (after allotment_next no_balances ops) op
 
-abbrev pub picks : (a b c : ℕ × ℕ) → List Record
-picks a b c =
+abbrev pub three_picks : (a b c : ℕ × ℕ) → List Record
+three_picks a b c =
     view_change_by 0 1 0 a.0 a.1 ∷ view_change_by 1 1 0 b.0 b.1 ∷ view_change_by 2 1 0 c.0 c.1 ∷ []

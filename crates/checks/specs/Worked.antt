@@ -6,7 +6,7 @@ use Rattle.std.specs.Prelude.{◌≡◌, ℕ, ◌^◌, List, [], ◌∷◌, ◌+
 use Rattle.record.specs.Packed.{packing, Packs}
 use Rattle.record.specs.declared.Record.{Record}
 use Rattle.merge.specs.Merges.{merge}
-use Rattle.checks.specs.Examples.{a_reply, a_view_change, low_curve, high_curve, flow_after, grant, draw, balance_after, picks}
+use Rattle.checks.specs.Examples.{a_reply, a_view_change, low_curve, high_curve, flow_after, grant, draw, balance_after, three_picks}
 
 pub record WorkedChecks : Type 0 where
   -- the bytes of a REPLY
@@ -29,8 +29,8 @@ pub record WorkedChecks : Type 0 where
   pub drawn : balance_after (grant 100 ∷ []) (draw 100) ≡ 0
   pub overdrawn : balance_after (grant 100 ∷ draw 100 ∷ []) (draw 1) ≡ 2 ^ 63
   -- three picks over the base 0 and 0, without a no-op and with one in slot 1
-  pub merged : merge (0, 0) (picks (0, 0) (0, 0) (1, 0)) ≡ (1, 0)
-  pub merged_no_op : merge (0, 0) (picks (2, 2) (1, 0) (0, 0)) ≡ (2, 2)
+  pub merged : merge (0, 0) (three_picks (0, 0) (0, 0) (1, 0)) ≡ (1, 0)
+  pub merged_no_op : merge (0, 0) (three_picks (2, 2) (1, 0) (0, 0)) ≡ (2, 2)
 
 abbrev worked_figures : List (List ℕ)
 worked_figures =

@@ -2,12 +2,15 @@
 //! of records, services and merges cite, and run.
 #![tactic(auto)]
 
-ghost use Rattle.std.specs.Prelude.{◌≡◌, [], ◌∷◌};
+ghost use Rattle.std.specs.Prelude.{◌≡◌};
 ghost use Rattle.merge.specs.Merges.{merge};
-ghost use Rattle.checks.specs.Examples.{flow_after, picks};
+ghost use Rattle.checks.specs.Examples.{flows_after, three_picks};
 ghost use Rattle.checks.specs.Worked.{WorkedChecks, worked_run};
 
+mod counting;
+
 use allotment::Allotment;
+pub use counting::Counting;
 use merge::merge;
 use rating::Rating;
 use record::Record;
@@ -32,7 +35,7 @@ const DRAW_1: u64 = (2 << 62) + (1 << 26);
 
 // The flows at 2000, 2001 and 5001 millimetres after two loads.
 fn flows(first: u64, second: u64) -> [u64; 3]
-    ensures { result ≡ flow_after first second 2000 ∷ flow_after first second 2001 ∷ flow_after first second 5001 ∷ [] }
+    ensures { result ≡ flows_after first second }
 {
     let mut rating = Rating::new();
     let _ = rating.apply(first);
@@ -47,7 +50,7 @@ fn flows(first: u64, second: u64) -> [u64; 3]
 // The line that three picks for view 1 merge to over the base 0 and 0: those of the replicas 0, 1
 // and 2, with these reaches and words.
 fn merged(a: (u8, u64), b: (u8, u64), c: (u8, u64)) -> (u8, u64)
-    ensures { result ≡ merge (0, 0) (picks a b c) }
+    ensures { result ≡ merge (0, 0) (three_picks a b c) }
 {
     let picks = [
         Record::view_change_by(0, 1, 0, a.0, a.1),
@@ -93,6 +96,8 @@ pub fn worked_checks() -> ([[u64; 3]; 3], [(u8, u64); 2])
 
 #[cfg(test)]
 mod bench_tests;
+#[cfg(test)]
+mod counting_tests;
 #[cfg(test)]
 mod open_tests;
 #[cfg(test)]

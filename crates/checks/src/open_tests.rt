@@ -11,6 +11,19 @@ fn at_0(ground: Ground) -> Option<Refusal> {
     Some(Refusal { ground, place: 0 })
 }
 
+// Why an open is refused, if it is.
+fn refused_open(
+    f: u64,
+    foreign: u64,
+    table: &mut Table<'_>,
+    allotment: &mut Allotment,
+) -> Option<Refusal> {
+    match Bench::open(f, foreign, table, allotment) {
+        Ok(_) => None,
+        Err(unopened) => Some(unopened.refusal),
+    }
+}
+
 #[test]
 fn benches_open_over_an_empty_register(rt: HostRuntime) {
     let said = Record {
@@ -30,14 +43,14 @@ fn benches_open_over_an_empty_register(rt: HostRuntime) {
     ];
     for (f, foreign, refused) in cases {
         assert_eq!(rt;
-            Bench::open(f, foreign, &mut table, &mut allotment).err(),
+            refused_open(f, foreign, &mut table, &mut allotment),
             refused,
             "f {f}, foreign {foreign}"
         );
     }
     assert_eq!(rt; table.enter(&said), Ok(()));
     assert_eq!(rt;
-        Bench::open(1, 8, &mut table, &mut allotment).err(),
+        refused_open(1, 8, &mut table, &mut allotment),
         at_0(Ground::RegisterNotEmpty)
     );
 }

@@ -1,9 +1,9 @@
 -- What C is told.
---   told k g w p  — an outcome of the kind k, with the ground's number g, the witnesses w and the place p
---   none          — no witnesses
---   outcome_of o  — the outcome o of a call, if it was made, for C
---   replica_of r  — the replica r, for C
---   status_of z   — what a bench kept, z, for C
+--   outcome_with k g w p  — an outcome of the kind k, with the ground's number g, the witnesses w and the place p
+--   none                  — no witnesses
+--   outcome_for_c o       — the outcome o of a call, if it was made, for C
+--   replica_for_c r       — the replica r, for C
+--   status_for_c z        — what a bench kept, z, for C
 use Rattle.std.specs.Prelude.{ℕ, ◌-◌, cond, ◌++◌, List, length, map, replicate, Some, None, Option}
 use Rattle.refusal.specs.Grounds.{ground_number}
 use Rattle.replica.specs.declared.Replica as replica
@@ -14,21 +14,21 @@ use Rattle.fotsgari_c.specs.declared.outcome.Outcome.{Outcome}
 use Rattle.fotsgari_c.specs.declared.status.Replica.{Replica}
 use Rattle.fotsgari_c.specs.declared.status.Status.{Status}
 
-abbrev pub told : (kind : ℕ) (ground : ℕ) (witnesses : List ℕ) (place : ℕ) → Outcome
-told k g w p = record { kind = k; ground = g; witnesses = w; place = p }
+abbrev pub outcome_with : (kind : ℕ) (ground : ℕ) (witnesses : List ℕ) (place : ℕ) → Outcome
+outcome_with k g w p = record { kind = k; ground = g; witnesses = w; place = p }
 
 abbrev pub none : List ℕ
 none = replicate 16 0
 
-abbrev pub outcome_of : Option life.Outcome → Outcome
-outcome_of None = told 0 0 none 0
-outcome_of (Some Granted) = told 1 0 none 0
-outcome_of (Some (Yes w)) = told 2 0 w 0
-outcome_of (Some No) = told 3 0 none 0
-outcome_of (Some (Refused e)) = told 4 (ground_number e.ground) none e.place
+abbrev pub outcome_for_c : Option life.Outcome → Outcome
+outcome_for_c None = outcome_with 0 0 none 0
+outcome_for_c (Some Granted) = outcome_with 1 0 none 0
+outcome_for_c (Some (Yes w)) = outcome_with 2 0 w 0
+outcome_for_c (Some No) = outcome_with 3 0 none 0
+outcome_for_c (Some (Refused e)) = outcome_with 4 (ground_number e.ground) none e.place
 
-abbrev pub replica_of : replica.Replica → Replica
-replica_of r =
+abbrev pub replica_for_c : replica.Replica → Replica
+replica_for_c r =
     record {
       view = r.view;
       target = r.target;
@@ -39,10 +39,10 @@ replica_of r =
       sealed = r.sealed;
     }
 
-abbrev pub status_of : bench.Status → Status
-status_of z =
+abbrev pub status_for_c : bench.Status → Status
+status_for_c z =
     record {
       stamped = length z.operations.items;
       operations = z.operations.items ++ replicate (64 - length z.operations.items) 0;
-      replicas = map replica_of z.replicas;
+      replicas = map replica_for_c z.replicas;
     }

@@ -1,14 +1,13 @@
 //! Calls of C.
-ghost use Rattle.std.specs.Prelude.{◌≡◌, ◌≤◌, Ok, Err, MatchResult};
-ghost use Rattle.life.specs.Calls.{calls_of};
-ghost use Rattle.fotsgari_c.specs.Calls.{verdict_of, picks_of, record_at, meant, vote, merging, read_all, IsFault};
+ghost use Rattle.std.specs.Prelude.{◌≡◌, ◌≤◌};
+ghost use Rattle.fotsgari_c.specs.Calls.{verdict_of, Picks, record_at, meant, vote, merging_call, ReadsAll};
 
 use crate::fault::Fault;
 use record::Record;
 use replica::Verdict;
 use std::alloc::Global;
 
-/// A call: its number, and its arguments in the order of the documents. Any number is allowed in each.
+/// A call: its number, and its arguments in the order of docs/PROTOCOL.md. Any number is allowed in each.
 #[repr(C)]
 #[derive(Clone, Copy, Debug)]
 pub struct Call {
@@ -31,7 +30,7 @@ fn verdict(number: u64) -> Result<Verdict, Fault>
 
 // So many records, from this place on.
 fn picks<'a>(records: &'a [Record], first: u64, count: u64) -> Result<&'a [Record], Fault>
-    ensures { MatchResult result (λ ps. picks_of records.now first count ≡ Ok ps.now) (λ e. picks_of records.now first count ≡ Err e) }
+    ensures { Picks records.now first count result }
 {
     let length = records.len() as u64;
     if first > length || count > length - first {
@@ -91,7 +90,7 @@ fn merging<'a>(
 ) -> Result<life::Call<'a>, Fault>
     requires from { 12 ≤ number }
     requires to { number ≤ 13 }
-    ensures { meant result ≡ merging number records.now arguments }
+    ensures { meant result ≡ merging_call number records.now arguments }
 {
     let [replica, first, count, base_length, base_word] = arguments;
     let picks = picks(records, first, count)?;
@@ -156,7 +155,7 @@ pub(crate) fn turns_of<'a>(
     calls: &[Call],
     records: &'a [Record],
 ) -> Result<Vec<life::Turn<'a>>, Fault>
-    ensures { MatchResult result (λ ts. read_all records.now calls.now ≡ Ok (calls_of ts.items)) (IsFault (read_all records.now calls.now)) }
+    ensures { ReadsAll records.now calls.now result }
 {
     let mut turns = Vec::new(alloc);
     for call in calls {

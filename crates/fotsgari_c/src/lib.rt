@@ -1,7 +1,7 @@
 //! Lives of a bench for C: an export for each service, over a tape of the caller's bytes.
 #![tactic(auto)]
 
-ghost use Rattle.fotsgari_c.specs.Lives.{Answers, rating, allotment};
+ghost use Rattle.fotsgari_c.specs.Lives.{lent, Answers, rating, allotment};
 
 mod call;
 mod fault;
@@ -31,7 +31,9 @@ pub extern "C" fn fotsgari_run_rating(
     outcomes: &mut [Outcome],
     status: &mut Status,
 ) -> u8
-    ensures { Answers (record { f = f; mask = foreign }) rating calls.now records.now tape.old outcomes.old status.old result tape.new outcomes.new status.new }
+    ensures { Answers (record { f = f; mask = foreign }) rating calls.now records.now
+        (lent tape.old outcomes.old status.old) result
+        (lent tape.new outcomes.new status.new) }
 {
     run(
         alloc,
@@ -59,7 +61,9 @@ pub extern "C" fn fotsgari_run_allotment(
     outcomes: &mut [Outcome],
     status: &mut Status,
 ) -> u8
-    ensures { Answers (record { f = f; mask = foreign }) allotment calls.now records.now tape.old outcomes.old status.old result tape.new outcomes.new status.new }
+    ensures { Answers (record { f = f; mask = foreign }) allotment calls.now records.now
+        (lent tape.old outcomes.old status.old) result
+        (lent tape.new outcomes.new status.new) }
 {
     run(
         alloc,

@@ -1,9 +1,9 @@
 //! Outcomes for C.
 ghost use Rattle.std.specs.Prelude.{◌≡◌, length, map};
-ghost use Rattle.fotsgari_c.specs.Told.{told, outcome_of};
+ghost use Rattle.fotsgari_c.specs.Told.{outcome_with, outcome_for_c};
 
 use life::Turn;
-use quorum::SIGNERS;
+use record::SIGNERS;
 
 /// What came of a call.
 #[repr(C)]
@@ -20,8 +20,8 @@ pub struct Outcome {
 }
 
 // An outcome with these fields.
-fn told(kind: u8, ground: u8, witnesses: [u8; SIGNERS], place: u64) -> Outcome
-    ensures { result ≡ told kind ground witnesses place }
+fn outcome_with(kind: u8, ground: u8, witnesses: [u8; SIGNERS], place: u64) -> Outcome
+    ensures { result ≡ outcome_with kind ground witnesses place }
 {
     Outcome {
         kind,
@@ -33,16 +33,16 @@ fn told(kind: u8, ground: u8, witnesses: [u8; SIGNERS], place: u64) -> Outcome
 
 /// What came of a call, if it was made.
 impl From<Option<life::Outcome>> for Outcome {
-    ghost from_gives = { λ o c. c ≡ outcome_of o };
+    ghost from_gives = { λ o c. c ≡ outcome_for_c o };
 
     fn from(outcome: Option<life::Outcome>) -> Outcome {
         let none = [0; SIGNERS];
         match outcome {
-            None => told(0, 0, none, 0),
-            Some(life::Outcome::Granted) => told(1, 0, none, 0),
-            Some(life::Outcome::Yes(witnesses)) => told(2, 0, witnesses, 0),
-            Some(life::Outcome::No) => told(3, 0, none, 0),
-            Some(life::Outcome::Refused(e)) => told(4, e.ground.into(), none, e.place),
+            None => outcome_with(0, 0, none, 0),
+            Some(life::Outcome::Granted) => outcome_with(1, 0, none, 0),
+            Some(life::Outcome::Yes(witnesses)) => outcome_with(2, 0, witnesses, 0),
+            Some(life::Outcome::No) => outcome_with(3, 0, none, 0),
+            Some(life::Outcome::Refused(e)) => outcome_with(4, e.ground.into(), none, e.place),
         }
     }
 }
@@ -51,7 +51,7 @@ impl From<Option<life::Outcome>> for Outcome {
 #[tactic(auto, using(crate::proofs::Mapping::mapped_more, crate::proofs::Mapping::mapped_all))]
 pub(crate) fn tell(turns: &[Turn<'_>], outcomes: &mut [Outcome])
     requires { length outcomes.old ≡ length turns.now }
-    ensures { outcomes.new ≡ map (λ t. outcome_of t.outcome) turns.now }
+    ensures { outcomes.new ≡ map (λ t. outcome_for_c t.outcome) turns.now }
 {
     for (i, outcome) in outcomes.iter_mut().enumerate() {
         *outcome = turns[i].outcome.into();

@@ -1,7 +1,7 @@
 //! Running a life for C.
 ghost use Rattle.std.specs.Prelude.{◌≡◌, length};
 ghost use Rattle.bench.specs.States.{service_of};
-ghost use Rattle.fotsgari_c.specs.Lives.{Turns, Comes, Answers};
+ghost use Rattle.fotsgari_c.specs.Lives.{lent, Turns, Comes, Answers};
 
 use crate::call::{Call, turns_of};
 use crate::fault::Fault;
@@ -25,7 +25,9 @@ fn run_turns<S: Service>(
     status: &mut Status,
 ) -> Result<(), Refusal>
     requires { length outcomes.old ≡ length turns.old }
-    ensures { Turns (record { f = f; mask = foreign }) (service_of S.fresh S.next S.answer (S.state service.old)) turns.old tape.old outcomes.old status.old result tape.new outcomes.new status.new }
+    ensures { Turns (record { f = f; mask = foreign }) (service_of S.Service service.old) turns.old
+        (lent tape.old outcomes.old status.old) result
+        (lent tape.new outcomes.new status.new) }
 {
     let mut register = Tape::new(tape);
     let kept = run_life(f, foreign, &mut register, service, turns)?;
@@ -46,7 +48,9 @@ fn run_or_fault<S: Service>(
     outcomes: &mut [Outcome],
     status: &mut Status,
 ) -> Result<(), Fault>
-    ensures { Comes (record { f = f; mask = foreign }) (service_of S.fresh S.next S.answer (S.state service.old)) calls.now records.now tape.old outcomes.old status.old result tape.new outcomes.new status.new }
+    ensures { Comes (record { f = f; mask = foreign }) (service_of S.Service service.old)
+        calls.now records.now (lent tape.old outcomes.old status.old) result
+        (lent tape.new outcomes.new status.new) }
 {
     if outcomes.len() != calls.len() {
         return Err(Fault::Outcomes);
@@ -68,7 +72,9 @@ pub(crate) fn run<S: Service>(
     outcomes: &mut [Outcome],
     status: &mut Status,
 ) -> u8
-    ensures { Answers (record { f = f; mask = foreign }) (service_of S.fresh S.next S.answer (S.state service.old)) calls.now records.now tape.old outcomes.old status.old result tape.new outcomes.new status.new }
+    ensures { Answers (record { f = f; mask = foreign }) (service_of S.Service service.old)
+        calls.now records.now (lent tape.old outcomes.old status.old) result
+        (lent tape.new outcomes.new status.new) }
 {
     match run_or_fault(
         alloc, f, foreign, service, tape, calls, records, outcomes, status,

@@ -1,11 +1,9 @@
 //! What a bench kept, for C.
 ghost use Rattle.std.specs.Prelude.{◌≡◌, ◌-◌, ◌≤◌, ◌++◌, length, map, replicate};
-ghost use Rattle.fotsgari_c.specs.Told.{replica_of, status_of};
+ghost use Rattle.fotsgari_c.specs.Told.{replica_for_c, status_for_c};
 
-use bench::SLOTS;
-
-// The greatest number of replicas.
-const REPLICAS: usize = 16;
+use record::SIGNERS;
+use replica::SLOTS;
 
 /// A replica, with the fields of `replica::Replica`.
 #[repr(C)]
@@ -30,12 +28,12 @@ pub struct Status {
     /// The operations stamped, that of slot 0 first, and then zeros.
     pub operations: [u64; SLOTS],
     /// The replicas by their numbers. Those that the bench has not got are as they were at the opening.
-    pub replicas: [Replica; REPLICAS],
+    pub replicas: [Replica; SIGNERS],
 }
 
 /// The same replica, for C.
 impl From<replica::Replica> for Replica {
-    ghost from_gives = { λ r c. c ≡ replica_of r };
+    ghost from_gives = { λ r c. c ≡ replica_for_c r };
 
     fn from(r: replica::Replica) -> Replica {
         Replica {
@@ -62,11 +60,11 @@ fn operations_of(operations: &[u64]) -> [u64; SLOTS]
 
 // The same replicas, for C.
 #[tactic(auto, using(crate::proofs::Mapping::mapped_more, crate::proofs::Mapping::mapped_all))]
-fn replicas_of(replicas: &[replica::Replica]) -> [Replica; REPLICAS]
+fn replicas_of(replicas: &[replica::Replica]) -> [Replica; SIGNERS]
     requires { length replicas.now ≡ 16 }
-    ensures { result ≡ map replica_of replicas.now }
+    ensures { result ≡ map replica_for_c replicas.now }
 {
-    let mut all = [Replica::default(); REPLICAS];
+    let mut all = [Replica::default(); SIGNERS];
     for (i, replica) in all.iter_mut().enumerate() {
         *replica = replicas[i].into();
     }
@@ -75,7 +73,7 @@ fn replicas_of(replicas: &[replica::Replica]) -> [Replica; REPLICAS]
 
 // What the bench kept, for C.
 pub(crate) fn status_of(status: &bench::Status) -> Status
-    ensures { result ≡ status_of status.now }
+    ensures { result ≡ status_for_c status.now }
 {
     let replicas = replicas_of(status.replicas());
     let operations = status.operations();

@@ -1,7 +1,7 @@
 use Rattle.std.proofs.Common.{◌≡◌, map, take}
 use Rattle.life.specs.declared.call.Turn.{Turn}
-use Rattle.fotsgari_c.specs.Told.{outcome_of}
+use Rattle.fotsgari_c.specs.Told.{outcome_for_c}
 use Rattle.fotsgari_c.proofs.outcome.tell.Given as goal
 
 abbrev pub invariant-loop-i : goal.invariant-loop-i
-invariant-loop-i l = take l.i l.outcomes ≡ map (λ (t : Turn). outcome_of t.outcome) (take l.i l.turns)
+invariant-loop-i l = take l.i l.outcomes ≡ map (λ (t : Turn). outcome_for_c t.outcome) (take l.i l.turns)

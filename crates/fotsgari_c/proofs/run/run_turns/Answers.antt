@@ -3,20 +3,19 @@ use Rattle.record.specs.Tapes.{places}
 use Rattle.tape.specs.Tapes.{TapeMemory, tape_held, tape_free}
 use Rattle.tape.proofs.Places.{stored_at_start}
 use Rattle.protocol.specs.State.{opened}
-use Rattle.protocol.specs.Life.{added_by}
+use Rattle.protocol.specs.Life.{additions}
 use Rattle.bench.specs.States.{service_of}
 use Rattle.life.specs.Calls.{calls_of}
 use Rattle.fotsgari_c.proofs.run.run_turns.Goals as goal
 
 pub returns : goal.returns
 returns g c =
-    let S = g.S.Service in
     let empty = c.new-register.result in
     let register = c.run_life.new.register in
     let lent = empty.bytes.ghost_name in
     let rs =
-    added_by (record { f = c.args.f; mask = c.args.foreign })
-    (service_of S.fresh S.next S.answer (S.state c.args.service.now)) (opened (places c.args.tape.now))
+    additions (record { f = c.args.f; mask = c.args.foreign })
+    (service_of g.S.Service c.args.service.now) (opened (places c.args.tape.now))
     (calls_of c.args.turns.now) in
     let added = rw (c.new-register.ensures.free, c.new-register.ensures.bytes, c.new-register.ensures.used) at c.in_ok-kept.ensures.memory in
     let memory = added ∙ stored_at_start lent c.args.tape.now rs in
