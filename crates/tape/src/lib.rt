@@ -7,7 +7,7 @@ ghost use Rattle.register.specs.Sets.{nothing};
 
 mod parts;
 
-use crate::parts::{has, holds_nothing};
+use crate::parts::{has, holds_nothing, put};
 use record::{Record, SIZE};
 use refusal::{Ground, Refusal};
 use register::Register;
@@ -81,8 +81,7 @@ impl<'a> Register for Tape<'a> {
         if self.used == self.bytes.len() / SIZE {
             return Err(Ground::RegisterFull.into());
         }
-        let start = SIZE * self.used;
-        self.bytes[start..start + SIZE].copy_from_slice(&part);
+        put(self.bytes, self.used, &part);
         self.used += 1;
         Ok(())
     }

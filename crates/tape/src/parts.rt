@@ -1,10 +1,11 @@
 //! Parts of a tape, 20 bytes each.
-ghost use Rattle.std.specs.Prelude.{◌≡◌};
+ghost use Rattle.std.specs.Prelude.{◌≡◌, ◌<◌};
 ghost use Rattle.std.specs.Str.{bytes_eq};
 ghost use Rattle.register.specs.Sets.{Emptiness};
 ghost use Rattle.register.specs.Stored.{stored};
 ghost use Rattle.std.specs.List.{list_any};
-ghost use Rattle.tape.specs.Tapes.{has_bytes};
+ghost use Rattle.record.specs.Tapes.{places};
+ghost use Rattle.tape.specs.Tapes.{has_bytes, replaced};
 
 use record::{Record, SIZE};
 
@@ -21,4 +22,14 @@ pub(crate) fn holds_nothing(parts: &[[u8; SIZE]]) -> bool
     ensures { Emptiness (stored has_bytes parts.now) result }
 {
     !parts.iter().any(|part| Record::unpack(part).is_ok())
+}
+
+// Writes the part to the place.
+#[tactic(auto, using(crate::proofs::Places::put_replaces))]
+pub(crate) fn put(bytes: &mut [u8], place: usize, part: &[u8; SIZE])
+    requires { place < places bytes.old }
+    ensures { bytes.new ≡ replaced place bytes.old part.now }
+{
+    let start = SIZE * place;
+    bytes[start..start + SIZE].copy_from_slice(part);
 }
