@@ -1,16 +1,22 @@
-//! Prints what a life comes to: a line, with what is certified along it, and the replicas.
-ghost use Rattle.std.specs.Prelude.{◌<◌};
-
-use crate::statements::MEMBERS;
-use crate::steps::{InWords, print_answer};
+//! A line in words, with what is certified along it.
+use crate::members::MEMBERS;
+use crate::words::{InWords, print_answer};
 use record::Record;
 use register::Register;
-use replica::{Mode, Replica, Verdict, bit};
+use replica::{Verdict, bit};
 use service::Service;
+
+// The last view.
+const LAST_VIEW: u8 = 63;
+
+// The no-ops of a word below a slot.
+fn below(word: u64, slot: u8) -> u64 {
+    word & !u64::MAX.checked_shl(slot.into()).unwrap_or(0)
+}
 
 // The first view in which a quorum said the statement, whichever view it has itself.
 fn first_view<R: Register>(register: &R, statement: &Record) -> Option<u8> {
-    (0..64u8).find(|&view| { MEMBERS.reached(register, &Record { view, ..*statement }) })
+    (0..=LAST_VIEW).find(|&view| MEMBERS.reached(register, &Record { view, ..*statement }))
 }
 
 // Prints whether a quorum said the statement in some view, to the end of the line.
@@ -35,31 +41,23 @@ fn print_slot<R: Register, S: Service + InWords>(
     operation: u64,
     word: u64,
     slot: u8,
-) -> anyhow::Result<()>
-    requires { slot < 64 }
-{
+) -> anyhow::Result<()> {
     print!(rt; "    slot {slot}: ")?;
     S::print_operation(rt, operation)?;
     if bit(word, slot) {
         print!(rt; ": no-op")?;
-        return print_certified(
-            rt,
-            register,
-            &Record::commit_by(0, 0, slot, Verdict::NoOp.into()),
-        );
+        let commit = Record::commit_by(0, 0, slot, Verdict::NoOp.into());
+        return print_certified(rt, register, &commit);
     }
     let answer = service.apply(operation);
     print!(rt; ": operation, answer ")?;
-    print_answer(rt, answer)?;
-    print_certified(
-        rt,
-        register,
-        &Record::reply_by(0, 0, slot, word % (1 << slot), answer),
-    )
+    print_answer::<S>(rt, operation, answer)?;
+    let reply = Record::reply_by(0, 0, slot, below(word, slot), answer);
+    print_certified(rt, register, &reply)
 }
 
-/// Prints a line slot by slot. The service is cleared and takes the slots along the line; whether the
-/// answer that it gives for a slot is certified is asked of the register.
+/// Prints a line slot by slot. The service is cleared and takes the slots along the line; whether
+/// the answer that it gives for a slot is certified is asked of the register.
 pub fn print_line<R: Register, S: Service + InWords>(
     rt: &HostRuntime,
     register: &R,
@@ -68,41 +66,8 @@ pub fn print_line<R: Register, S: Service + InWords>(
     (length, word): (u8, u64),
 ) -> anyhow::Result<()> {
     service.clear();
-    for slot in 0..length.min(64) {
-        let Some(&operation) = operations.get(usize::from(slot)) else {
-            break;
-        };
+    for (slot, &operation) in (0..length).zip(operations) {
         print_slot(rt, register, service, operation, word, slot)?;
-    }
-    Ok(())
-}
-
-// Prints one replica.
-fn print_replica(rt: &HostRuntime, number: u8, replica: &Replica) -> anyhow::Result<()> {
-    let Replica {
-        view,
-        target,
-        length,
-        word,
-        ..
-    } = *replica;
-    print!(rt; "    replica {number}: view {view}, length {length}, word {word}")?;
-    match replica.mode() {
-        Mode::AtWork => println!(rt; ", at work")?,
-        Mode::Leaving => println!(rt; ", leaving for view {target}")?,
-    }
-    Ok(())
-}
-
-/// Prints the view, the line and the mode of each replica; of a foreign one only that it is foreign.
-pub fn print_replicas(rt: &HostRuntime, foreign: u64, replicas: &[Replica]) -> anyhow::Result<()> {
-    println!(rt; "  replicas:")?;
-    for (number, replica) in (0..MEMBERS.replicas).zip(replicas) {
-        if bit(foreign, number) {
-            println!(rt; "    replica {number}: foreign")?;
-            continue;
-        }
-        print_replica(rt, number, replica)?;
     }
     Ok(())
 }
