@@ -37,7 +37,8 @@ fn read(rt: &HostRuntime, rating: &mut Rating, stage: u16) -> anyhow::Result<u64
 
 // Loads two curves into a fresh service and reads about two metres. Answers the flow at two metres.
 fn read_after(rt: &HostRuntime, first: Curve, second: Curve) -> anyhow::Result<u64>
-    ensures { IfOk result (λ x. x ≡ flow_by 2000 (deciding 2000 (loaded second (loaded first [])))) }
+    ensures { IfOk result
+        (λ x. x ≡ flow_by 2000 (deciding 2000 (loaded second (loaded first [])))) }
 {
     let (a, b) = (first.number, second.number);
     println!(rt; "Curve {a} loaded, then curve {b}")?;

@@ -1,4 +1,6 @@
 //! A line in words, with what is certified along it.
+ghost use Rattle.std.specs.Prelude.{◌≡◌, ◌%◌, ◌^◌};
+
 use crate::members::MEMBERS;
 use crate::words::{InWords, print_answer};
 use record::Record;
@@ -10,8 +12,13 @@ use service::Service;
 const LAST_VIEW: u8 = 63;
 
 // The no-ops of a word below a slot.
-fn below(word: u64, slot: u8) -> u64 {
-    word & !u64::MAX.checked_shl(slot.into()).unwrap_or(0)
+fn below(word: u64, slot: u8) -> u64
+    ensures { result ≡ word % 2 ^ slot }
+{
+    match 1u64.checked_shl(slot.into()) {
+        Some(bit) => word % bit,
+        None => word,
+    }
 }
 
 // The first view in which a quorum said the statement, whichever view it has itself.

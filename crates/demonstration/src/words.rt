@@ -55,7 +55,7 @@ fn print_bits(rt: &HostRuntime, bits: u64, unknown: UnknownOperation) -> anyhow:
     Ok(())
 }
 
-/// Prints an answer to the operation of these bits: a figure, or the name of an answer that is none.
+/// Prints an answer to the operation of these bits: a figure, or the name of what is none.
 pub fn print_answer<S: InWords>(rt: &HostRuntime, bits: u64, answer: u64) -> anyhow::Result<()> {
     match outcome(answer) {
         Ok(figure) => S::print_figure(rt, bits, figure)?,
