@@ -92,6 +92,7 @@ const TURNS: [Turn<'static>; 35] = turns! {
     Answer { room: ROOM, view: 0, slot: 1, word: 0, value: 100 }
 };
 
+// Each with the number of the step before which it stands.
 const HEADINGS: [(u64, &str); 3] = [
     (1, "Delivery, with forged answers"),
     (19, "A foreign leader"),

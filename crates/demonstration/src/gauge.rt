@@ -43,8 +43,8 @@ fn read_after(rt: &HostRuntime, first: Curve, second: Curve) -> anyhow::Result<u
     let (a, b) = (first.number, second.number);
     println!(rt; "Curve {a} loaded, then curve {b}")?;
     let mut rating = Rating::new();
-    let _ = rating.apply(u64::try_from(Operation::Load(first))?);
-    let _ = rating.apply(u64::try_from(Operation::Load(second))?);
+    rating.apply(u64::try_from(Operation::Load(first))?);
+    rating.apply(u64::try_from(Operation::Load(second))?);
     read(rt, &mut rating, 1999)?;
     let flow = read(rt, &mut rating, 2000)?;
     read(rt, &mut rating, 2001)?;

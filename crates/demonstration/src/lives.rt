@@ -34,7 +34,7 @@ pub fn run_and_print<R: Register, S: Service + InWords>(
     turns: &mut [Turn<'_>],
     headings: &[(u64, &str)],
 ) -> anyhow::Result<()> {
-    let status = run_life(F, foreign, register, service, turns)?;
+    let status = run_life(F.into(), foreign, register, service, turns)?;
     let operations = status.operations();
     println!(rt; "  step 0: open with f {F} and the foreign mask {foreign}: granted")?;
     print_turns::<S>(rt, operations, turns, headings)?;

@@ -5,6 +5,7 @@
 //! the end.
 #![tactic(auto)]
 
+mod answers;
 mod draws;
 mod errors;
 mod gauge;
@@ -15,7 +16,6 @@ mod packing;
 mod readings;
 mod replicas;
 mod statement;
-mod statements;
 mod steps;
 mod water;
 mod words;
@@ -25,7 +25,7 @@ fn run(rt: &HostRuntime) -> anyhow::Result<()> {
     water::draw_until_refused(rt)?;
     errors::print_errors(rt)?;
     packing::pack_and_read(rt, flow)?;
-    statements::enter_answers(rt, flow)?;
+    answers::enter_answers(rt, flow)?;
     readings::run(rt)?;
     draws::run(rt)
 }

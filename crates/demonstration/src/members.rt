@@ -2,10 +2,10 @@
 use quorum::Membership;
 
 /// How many foreign replicas a bench bears here.
-pub const F: u64 = 1;
+pub const F: u8 = 1;
 
-/// There are 3f + 1 replicas, and 2f + 1 of them are a quorum.
+/// How many replicas there are, and how many of them are a quorum.
 pub const MEMBERS: Membership = Membership {
-    replicas: 4,
-    quorum: 3,
+    replicas: 3 * F + 1,
+    quorum: 2 * F + 1,
 };

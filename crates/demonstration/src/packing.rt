@@ -1,7 +1,10 @@
 //! A statement as 20 bytes, and a tape of two of them.
+use crate::answers::answer_of;
 use crate::statement::print_statement;
-use crate::statements::answer_of;
 use record::{Part, Reader, SIZE};
+
+// The length of a tape of two records.
+const TAPE: usize = 2 * SIZE;
 
 // No Display: one line of this program's output.
 fn print_bytes(rt: &HostRuntime, bytes: &[u8; SIZE]) -> anyhow::Result<()> {
@@ -28,8 +31,8 @@ fn print_part(rt: &HostRuntime, part: Part) -> anyhow::Result<()> {
 }
 
 // The bytes, and once more with the lowest bit of the fourth turned.
-fn tape_of(bytes: &[u8; SIZE]) -> [u8; 40] {
-    let mut tape = [0; 40];
+fn tape_of(bytes: &[u8; SIZE]) -> [u8; TAPE] {
+    let mut tape = [0; TAPE];
     tape[..SIZE].copy_from_slice(bytes);
     tape[SIZE..].copy_from_slice(bytes);
     tape[SIZE + 3] ^= 1;

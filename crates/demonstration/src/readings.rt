@@ -125,15 +125,16 @@ const TO_63_BY_3: Record = Record {
     ..TO_63_BY_1
 };
 
-const PICKS_1_BAD: [Record; 3] = [TO_1_BY_0, TO_1_BY_1, FORGED_WORD_12];
+// One has a no-op that no quorum prepared.
+const PICKS_1_UNPREPARED: [Record; 3] = [TO_1_BY_0, TO_1_BY_1, FORGED_WORD_12];
 
 const PICKS_1: [Record; 3] = [TO_1_BY_0, TO_1_BY_1, TO_1_BY_3];
 
-const PICKS_1_OTHER: [Record; 3] = [TO_1_BY_3, FORGED_WORD_0, TO_1_BY_1];
+const PICKS_1_WITH_FORGED: [Record; 3] = [TO_1_BY_3, FORGED_WORD_0, TO_1_BY_1];
 
 const PICKS_63: [Record; 3] = [TO_63_BY_0, TO_63_BY_1, TO_63_BY_3];
 
-// View 63 is the last, and replica 3 leads it.
+// View 63 is the last, and replica 3 leads it. The foreign replica would have led view 2.
 const TURNS: [Turn<'static>; 108] = turns! {
     Stamp { operation: LOAD_LOW }
     Stamp { operation: LOAD_HIGH }
@@ -192,17 +193,17 @@ const TURNS: [Turn<'static>; 108] = turns! {
     Leave { replica: 1, target: 1 }
     Leave { replica: 3, target: 1 }
     Forge { statement: FORGED_WORD_12 }
-    Lead { replica: 1, picks: &PICKS_1_BAD, base_length: 0, base_word: 0 }
+    Lead { replica: 1, picks: &PICKS_1_UNPREPARED, base_length: 0, base_word: 0 }
     Lead { replica: 0, picks: &PICKS_1, base_length: 0, base_word: 0 }
     Start { replica: 0, picks: &PICKS_1, base_length: 0, base_word: 0 }
     Lead { replica: 1, picks: &PICKS_1, base_length: 0, base_word: 0 }
     Forge { statement: FORGED_WORD_0 }
     Start { replica: 0, picks: &PICKS_1, base_length: 0, base_word: 0 }
     Start { replica: 1, picks: &PICKS_1, base_length: 0, base_word: 0 }
-    Start { replica: 1, picks: &PICKS_1_OTHER, base_length: 0, base_word: 0 }
+    Start { replica: 1, picks: &PICKS_1_WITH_FORGED, base_length: 0, base_word: 0 }
     Forge { statement: FORGED_ENTRY }
     Enter { replica: 0, length: 5, word: 8, view: 1 }
-    Start { replica: 3, picks: &PICKS_1_OTHER, base_length: 0, base_word: 0 }
+    Start { replica: 3, picks: &PICKS_1_WITH_FORGED, base_length: 0, base_word: 0 }
     Enter { replica: 0, length: 5, word: 8, view: 1 }
     Enter { replica: 1, length: 5, word: 8, view: 1 }
     Enter { replica: 3, length: 5, word: 8, view: 1 }
@@ -250,6 +251,7 @@ const TURNS: [Turn<'static>; 108] = turns! {
     NoOp { room: ROOM, view: 1, slot: 6 }
 };
 
+// Each with the number of the step before which it stands.
 const HEADINGS: [(u64, &str); 6] = [
     (1, "Delivery"),
     (21, "A gap at slot 3, agreed as a no-op"),

@@ -1,4 +1,4 @@
-//! Statements of four replicas in a register with three places, and a quorum among them.
+//! The answers of four replicas in a register with three places, and a quorum among them.
 use crate::members::MEMBERS;
 use quorum::count;
 use record::Record;
