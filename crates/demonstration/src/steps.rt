@@ -1,32 +1,13 @@
-//! Prints the steps of a life: each call in words, and what came of it.
+//! The steps of a life in words: each call, and what came of it.
+use crate::statement::print_statement;
+use crate::words::{InWords, print_answer};
 use life::{Call, Outcome, Turn};
-use record::{Kind, Record};
+use record::Record;
 use replica::Verdict;
-use service::{Unanswered, outcome};
 
-/// A service whose operations are printed in words.
-pub trait InWords {
-    /// Prints the operation that the bits stand for.
-    fn print_operation(rt: &HostRuntime, bits: u64) -> anyhow::Result<()>;
-}
-
-// An array of turns that are still to come, one for each call that is written.
-macro_rules! turns {
-    ($($call:ident { $($field:ident: $value:expr),* })*) => {
-        [$(Turn { call: Call::$call { $($field: $value),* }, outcome: None }),*]
-    };
-}
-
-pub(crate) use turns;
-
-/// Prints an answer: a figure, or why it is none.
-pub fn print_answer(rt: &HostRuntime, answer: u64) -> anyhow::Result<()> {
-    match outcome(answer) {
-        Ok(figure) => print!(rt; "{figure}")?,
-        Err(Unanswered::OutOfRange) => print!(rt; "out of range")?,
-        Err(Unanswered::Malformed) => print!(rt; "malformed")?,
-    }
-    Ok(())
+// The bits stamped at a slot: 0, which stand for no operation, where none are.
+fn stamped_at(operations: &[u64], slot: u64) -> u64 {
+    operations.get(slot as usize).copied().unwrap_or(0)
 }
 
 // Prints what a replica does with a verdict on a slot.
@@ -42,36 +23,6 @@ fn print_vote(
         Verdict::NoOp => "no-op",
     };
     print!(rt; "replica {replica} {does} {verdict} for slot {slot}")?;
-    Ok(())
-}
-
-// No Display: part of one line of this program's output, with the fields that the lives here forge.
-fn print_statement(rt: &HostRuntime, statement: &Record) -> anyhow::Result<()> {
-    let Record {
-        signer,
-        view,
-        last,
-        slot,
-        verdict,
-        word,
-        result,
-        ..
-    } = *statement;
-    let kind = Kind::try_from(statement.kind)?;
-    match kind {
-        Kind::Reply => print!(rt;
-            "REPLY of replica {signer} for slot {slot} in view {view}, word {word}, answer {result}"
-        )?,
-        Kind::ViewChange => print!(rt;
-            "VIEW-CHANGE of replica {signer} from view {last} to view {view}, reach {slot}, word {word}"
-        )?,
-        Kind::Find | Kind::Drop => print!(rt;
-            "{kind} of replica {signer} for slot {slot} in view {view}"
-        )?,
-        _ => print!(rt;
-            "{kind} of replica {signer} for slot {slot} in view {view}, verdict {verdict}"
-        )?,
-    }
     Ok(())
 }
 
@@ -94,7 +45,11 @@ fn print_merge(
 }
 
 // Prints a call in words, up to what comes of it.
-fn print_call<S: InWords>(rt: &HostRuntime, call: &Call<'_>) -> anyhow::Result<()> {
+fn print_call<S: InWords>(
+    rt: &HostRuntime,
+    operations: &[u64],
+    call: &Call<'_>,
+) -> anyhow::Result<()> {
     match *call {
         Call::Stamp { operation } => {
             print!(rt; "the sequencer stamps ")?;
@@ -159,7 +114,7 @@ fn print_call<S: InWords>(rt: &HostRuntime, call: &Call<'_>) -> anyhow::Result<(
             ..
         } => {
             print!(rt; "is ")?;
-            print_answer(rt, value)?;
+            print_answer::<S>(rt, stamped_at(operations, slot), value)?;
             print!(rt; " certified for slot {slot} in view {view} with word {word}")?
         }
         Call::NoOp { view, slot, .. } => {
@@ -183,11 +138,26 @@ fn print_outcome(rt: &HostRuntime, came: Outcome) -> anyhow::Result<()> {
     Ok(())
 }
 
-/// Prints the turns of a life that was run, one line each, from step 1.
-pub fn print_turns<S: InWords>(rt: &HostRuntime, turns: &[Turn<'_>]) -> anyhow::Result<()> {
+// Prints the heading that stands before the step, if one does.
+fn print_heading(rt: &HostRuntime, headings: &[(u64, &str)], step: u64) -> anyhow::Result<()> {
+    if let Some((_, heading)) = headings.iter().find(|(first, _)| *first == step) {
+        println!(rt; "  {heading}:")?;
+    }
+    Ok(())
+}
+
+/// Prints the turns of a life that was run, one line each, from step 1. A heading has the number of
+/// the step before which it stands.
+pub fn print_turns<S: InWords>(
+    rt: &HostRuntime,
+    operations: &[u64],
+    turns: &[Turn<'_>],
+    headings: &[(u64, &str)],
+) -> anyhow::Result<()> {
     for (step, turn) in (1u64..).zip(turns) {
-        print!(rt; "  step {step}: ")?;
-        print_call::<S>(rt, &turn.call)?;
+        print_heading(rt, headings, step)?;
+        print!(rt; "    step {step}: ")?;
+        print_call::<S>(rt, operations, &turn.call)?;
         match turn.outcome {
             Some(came) => print_outcome(rt, came)?,
             None => println!(rt; ": not made")?,

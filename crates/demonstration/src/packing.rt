@@ -1,9 +1,13 @@
 //! A statement as 20 bytes, and a tape of two of them.
-use crate::statements::answer_of;
-use record::{Kind, Part, Reader, Record};
+use crate::answers::answer_of;
+use crate::statement::print_statement;
+use record::{Part, Reader, SIZE};
+
+// The length of a tape of two records.
+const TAPE: usize = 2 * SIZE;
 
 // No Display: one line of this program's output.
-fn print_bytes(rt: &HostRuntime, bytes: &[u8; 20]) -> anyhow::Result<()> {
+fn print_bytes(rt: &HostRuntime, bytes: &[u8; SIZE]) -> anyhow::Result<()> {
     print!(rt; "  packed:")?;
     for byte in bytes {
         print!(rt; " {byte:02x}")?;
@@ -12,44 +16,35 @@ fn print_bytes(rt: &HostRuntime, bytes: &[u8; 20]) -> anyhow::Result<()> {
     Ok(())
 }
 
-// No Display: one line of this program's output, with some fields of a statement.
+// No Display: one line of this program's output.
 fn print_part(rt: &HostRuntime, part: Part) -> anyhow::Result<()> {
     let position = part.position;
+    print!(rt; "  position {position}: ")?;
     match part.record() {
         Ok(record) => {
-            let Record {
-                signer,
-                view,
-                slot,
-                word,
-                result,
-                ..
-            } = record;
-            let kind = Kind::try_from(record.kind)?;
-            println!(rt;
-                "  position {position}: {kind} of replica {signer}, view {view}, slot {slot}, word {word}, result {result}"
-            )?;
+            print_statement(rt, &record)?;
+            println!(rt; "")?
         }
-        Err(refusal) => println!(rt;
-            "  position {position}: {refusal}, since no record has these bytes"
-        )?,
+        Err(refusal) => println!(rt; "{refusal}, since no record has these bytes")?,
     }
     Ok(())
 }
 
 // The bytes, and once more with the lowest bit of the fourth turned.
-fn tape_of(bytes: &[u8; 20]) -> [u8; 40] {
-    let mut tape = [0; 40];
-    tape[..20].copy_from_slice(bytes);
-    tape[20..].copy_from_slice(bytes);
-    tape[23] ^= 1;
+fn tape_of(bytes: &[u8; SIZE]) -> [u8; TAPE] {
+    let mut tape = [0; TAPE];
+    tape[..SIZE].copy_from_slice(bytes);
+    tape[SIZE..].copy_from_slice(bytes);
+    tape[SIZE + 3] ^= 1;
     tape
 }
 
 /// Packs the statement that a replica answered `answer`, and reads it back from a tape, on which
 /// the same bytes follow with a filling bit set.
 pub fn pack_and_read(rt: &HostRuntime, answer: u64) -> anyhow::Result<()> {
-    println!(rt; "Statement: replica 2 answers {answer} for slot 1 of view 0")?;
+    println!(rt;
+        "Statement: replica 2 answers {answer} l/s for slot 4 of view 1, and slot 3 is a no-op"
+    )?;
     let bytes = answer_of(2, answer).pack()?;
     print_bytes(rt, &bytes)?;
     println!(rt; "Tape: these 20 bytes, then the same with a filling bit set in the fourth byte")?;

@@ -4,7 +4,7 @@ ghost use Rattle.rating.specs.Curves.{deciding, loaded};
 ghost use Rattle.rating.specs.Rating.{curves_of, flow_by};
 
 use rating::{Curve, Operation, Rating};
-use service::{Service, Unanswered, outcome};
+use service::{Service, outcome};
 
 const LOW: Curve = Curve {
     number: 0,
@@ -24,26 +24,27 @@ const HIGH: Curve = Curve {
 
 // The flow at a stage, which is printed.
 fn read(rt: &HostRuntime, rating: &mut Rating, stage: u16) -> anyhow::Result<u64>
-    ensures flow { IfOk result (λ flow. flow ≡ flow_by stage (deciding stage (curves_of rating.old))) }
+    ensures flow { IfOk result (λ x. x ≡ flow_by stage (deciding stage (curves_of rating.old))) }
     ensures curves { OnOk result (curves_of rating.new ≡ curves_of rating.old) }
 {
     let flow = rating.apply(u64::try_from(Operation::Read(stage))?);
     match outcome(flow) {
-        Err(Unanswered::OutOfRange) => println!(rt; "  at {stage} mm: no curve holds this stage")?,
-        _ => println!(rt; "  at {stage} mm: {flow} l/s")?,
+        Ok(flow) => println!(rt; "  at {stage} mm: {flow} l/s")?,
+        Err(why) => println!(rt; "  at {stage} mm: {why}")?,
     }
     Ok(flow)
 }
 
 // Loads two curves into a fresh service and reads about two metres. Answers the flow at two metres.
 fn read_after(rt: &HostRuntime, first: Curve, second: Curve) -> anyhow::Result<u64>
-    ensures { IfOk result (λ flow. flow ≡ flow_by 2000 (deciding 2000 (loaded second (loaded first [])))) }
+    ensures { IfOk result
+        (λ x. x ≡ flow_by 2000 (deciding 2000 (loaded second (loaded first [])))) }
 {
     let (a, b) = (first.number, second.number);
     println!(rt; "Curve {a} loaded, then curve {b}")?;
     let mut rating = Rating::new();
-    let _ = rating.apply(u64::try_from(Operation::Load(first))?);
-    let _ = rating.apply(u64::try_from(Operation::Load(second))?);
+    rating.apply(u64::try_from(Operation::Load(first))?);
+    rating.apply(u64::try_from(Operation::Load(second))?);
     read(rt, &mut rating, 1999)?;
     let flow = read(rt, &mut rating, 2000)?;
     read(rt, &mut rating, 2001)?;

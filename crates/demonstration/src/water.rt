@@ -1,8 +1,8 @@
 //! An account of water that is drawn down.
 use allotment::{Allotment, Operation};
-use service::{Service, Unanswered, outcome};
+use service::{Service, outcome};
 
-/// Grants 100 to account 3, and draws 30 until the balance does not suffice.
+/// Grants 100 to account 3, and draws 30 four times. The balance does not suffice for the last.
 pub fn draw_until_refused(rt: &HostRuntime) -> anyhow::Result<()> {
     println!(rt; "Allotment: account 3")?;
     let mut allotment = Allotment::new();
@@ -14,17 +14,13 @@ pub fn draw_until_refused(rt: &HostRuntime) -> anyhow::Result<()> {
         account: 3,
         amount: 30,
     })?;
-    let mut balance = allotment.apply(grant);
+    let balance = allotment.apply(grant);
     println!(rt; "  grant 100: the balance is {balance}")?;
-    // At most ten draws.
-    for _ in 0..10 {
-        let answer = allotment.apply(draw);
-        if outcome(answer) == Err(Unanswered::OutOfRange) {
-            println!(rt; "  draw 30: not granted, the balance stays {balance}")?;
-            break;
+    for _ in 0..4 {
+        match outcome(allotment.apply(draw)) {
+            Ok(balance) => println!(rt; "  draw 30: the balance is {balance}")?,
+            Err(why) => println!(rt; "  draw 30: {why}")?,
         }
-        balance = answer;
-        println!(rt; "  draw 30: the balance is {balance}")?;
     }
     Ok(())
 }

@@ -1,18 +1,13 @@
-//! Statements of four replicas in a register with three places, and a quorum among them.
-use quorum::{Membership, count};
+//! The answers of four replicas in a register with three places, and a quorum among them.
+use crate::members::MEMBERS;
+use quorum::count;
 use record::Record;
 use register::{Register, insert};
 use registers::{SpareSheet, Table};
 
-/// The replicas of every part of this program: f is 1.
-pub const MEMBERS: Membership = Membership {
-    replicas: 4,
-    quorum: 3,
-};
-
-/// The statement that a replica answered `answer` for slot 1 of view 0.
+/// The statement that a replica answered `answer` for slot 4 of view 1, with slot 3 a no-op.
 pub fn answer_of(signer: u8, answer: u64) -> Record {
-    Record::reply_by(signer, 0, 1, 0, answer)
+    Record::reply_by(signer, 1, 4, 8, answer)
 }
 
 fn enter<R: Register>(
@@ -50,8 +45,8 @@ fn print_quorum<R: Register>(
 
 /// Enters the answers of four replicas into a table of three places, then with a spare sheet.
 pub fn enter_answers(rt: &HostRuntime, answer: u64) -> anyhow::Result<()> {
-    println!(rt; "Register: a table of 3 places, for the answers {answer} of 4 replicas")?;
-    let mut places = [answer_of(0, 0); 3];
+    println!(rt; "Register: a table of 3 places, for the answers {answer} l/s of 4 replicas")?;
+    let mut places = [Record::default(); 3];
     let mut table = Table::new(&mut places);
     enter(rt, &mut table, &answer_of(0, answer))?;
     enter(rt, &mut table, &answer_of(1, answer))?;
