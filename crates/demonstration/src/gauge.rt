@@ -4,7 +4,7 @@ ghost use Rattle.rating.specs.Curves.{deciding, loaded};
 ghost use Rattle.rating.specs.Rating.{curves_of, flow_by};
 
 use rating::{Curve, Operation, Rating};
-use service::{Service, outcome};
+use service::{Service, figure};
 
 const LOW: Curve = Curve {
     number: 0,
@@ -28,7 +28,7 @@ fn read(rt: &HostRuntime, rating: &mut Rating, stage: u16) -> anyhow::Result<u64
     ensures curves { OnOk result (curves_of rating.new ≡ curves_of rating.old) }
 {
     let flow = rating.apply(u64::try_from(Operation::Read(stage))?);
-    match outcome(flow) {
+    match figure(flow) {
         Ok(flow) => println!(rt; "  at {stage} mm: {flow} l/s")?,
         Err(why) => println!(rt; "  at {stage} mm: {why}")?,
     }

@@ -5,7 +5,7 @@ use crate::replicas::print_replicas;
 use crate::steps::print_turns;
 use crate::words::InWords;
 use life::{Turn, run_life};
-use quorum::SIGNERS;
+use record::SIGNERS;
 use register::Register;
 use service::Service;
 

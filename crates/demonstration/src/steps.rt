@@ -10,14 +10,31 @@ fn stamped_at(operations: &[u64], slot: u64) -> u64 {
     operations.get(slot as usize).copied().unwrap_or(0)
 }
 
-// Prints what a replica does with a verdict on a slot.
-fn print_vote(
-    rt: &HostRuntime,
-    replica: u64,
-    does: &str,
-    slot: u64,
-    verdict: Verdict,
-) -> anyhow::Result<()> {
+// Prints a call of a replica on the verdict of a slot.
+fn print_vote(rt: &HostRuntime, call: &Call<'_>) -> anyhow::Result<()> {
+    let (does, replica, slot, verdict) = match *call {
+        Call::Decide {
+            replica,
+            slot,
+            verdict,
+        } => ("decides", replica, slot, verdict),
+        Call::Prepare {
+            replica,
+            slot,
+            verdict,
+        } => ("prepares", replica, slot, verdict),
+        Call::Commit {
+            replica,
+            slot,
+            verdict,
+        } => ("commits", replica, slot, verdict),
+        Call::Settle {
+            replica,
+            slot,
+            verdict,
+        } => ("settles", replica, slot, verdict),
+        _ => return Ok(()),
+    };
     let verdict = match verdict {
         Verdict::Operation => "operation",
         Verdict::NoOp => "no-op",
@@ -26,21 +43,61 @@ fn print_vote(
     Ok(())
 }
 
-// Prints who leads or starts a view, with the signers of the picks and the base.
-fn print_merge(
-    rt: &HostRuntime,
-    replica: u64,
-    does: &str,
-    picks: &[Record],
-    base_length: u64,
-    base_word: u64,
-) -> anyhow::Result<()> {
-    print!(rt; "replica {replica} {does} with the picks of")?;
+// Prints the signers of the picks.
+fn print_signers(rt: &HostRuntime, picks: &[Record]) -> anyhow::Result<()> {
     for pick in picks {
         let signer = pick.signer;
         print!(rt; " {signer},")?;
     }
+    Ok(())
+}
+
+// Prints who leads or starts a view, with the signers of the picks and the base.
+fn print_merge(rt: &HostRuntime, call: &Call<'_>) -> anyhow::Result<()> {
+    let (does, replica, picks, base_length, base_word) = match *call {
+        Call::Lead {
+            replica,
+            picks,
+            base_length,
+            base_word,
+        } => ("leads", replica, picks, base_length, base_word),
+        Call::Start {
+            replica,
+            picks,
+            base_length,
+            base_word,
+        } => ("starts", replica, picks, base_length, base_word),
+        _ => return Ok(()),
+    };
+    print!(rt; "replica {replica} {does} with the picks of")?;
+    print_signers(rt, picks)?;
     print!(rt; " base of length {base_length} and word {base_word}")?;
+    Ok(())
+}
+
+// Prints what a certificate call asks.
+fn print_question<S: InWords>(
+    rt: &HostRuntime,
+    operations: &[u64],
+    call: &Call<'_>,
+) -> anyhow::Result<()> {
+    match *call {
+        Call::Answer {
+            view,
+            slot,
+            word,
+            value,
+            ..
+        } => {
+            print!(rt; "is ")?;
+            print_answer::<S>(rt, stamped_at(operations, slot), value)?;
+            print!(rt; " certified for slot {slot} in view {view} with word {word}")?
+        }
+        Call::NoOp { view, slot, .. } => {
+            print!(rt; "is no-op certified for slot {slot} in view {view}")?
+        }
+        _ => {}
+    }
     Ok(())
 }
 
@@ -58,46 +115,10 @@ fn print_call<S: InWords>(
         Call::Deliver { replica, slot } => print!(rt; "replica {replica} delivers slot {slot}")?,
         Call::Find { replica } => print!(rt; "replica {replica} finds the slot at its length")?,
         Call::Drop { replica } => print!(rt; "replica {replica} drops the slot at its length")?,
-        Call::Decide {
-            replica,
-            slot,
-            verdict,
-        } => print_vote(rt, replica, "decides", slot, verdict)?,
-        Call::Prepare {
-            replica,
-            slot,
-            verdict,
-        } => print_vote(rt, replica, "prepares", slot, verdict)?,
-        Call::Commit {
-            replica,
-            slot,
-            verdict,
-        } => print_vote(rt, replica, "commits", slot, verdict)?,
-        Call::Settle {
-            replica,
-            slot,
-            verdict,
-        } => print_vote(rt, replica, "settles", slot, verdict)?,
         Call::Reply { replica, slot } => print!(rt; "replica {replica} replies for slot {slot}")?,
-        Call::Leave { replica, target } => {
-            print!(rt; "replica {replica} leaves for view {target}")?
-        }
-        Call::Forge { statement } => {
-            print!(rt; "forge ")?;
-            print_statement(rt, &statement)?
-        }
-        Call::Lead {
-            replica,
-            picks,
-            base_length,
-            base_word,
-        } => print_merge(rt, replica, "leads", picks, base_length, base_word)?,
-        Call::Start {
-            replica,
-            picks,
-            base_length,
-            base_word,
-        } => print_merge(rt, replica, "starts", picks, base_length, base_word)?,
+        Call::Leave { replica, target } => print!(rt;
+            "replica {replica} leaves for view {target}"
+        )?,
         Call::Enter {
             replica,
             length,
@@ -106,20 +127,15 @@ fn print_call<S: InWords>(
         } => print!(rt;
             "replica {replica} enters view {view} with length {length} and word {word}"
         )?,
-        Call::Answer {
-            view,
-            slot,
-            word,
-            value,
-            ..
-        } => {
-            print!(rt; "is ")?;
-            print_answer::<S>(rt, stamped_at(operations, slot), value)?;
-            print!(rt; " certified for slot {slot} in view {view} with word {word}")?
+        Call::Forge { statement } => {
+            print!(rt; "forge ")?;
+            print_statement(rt, &statement)?
         }
-        Call::NoOp { view, slot, .. } => {
-            print!(rt; "is no-op certified for slot {slot} in view {view}")?
+        Call::Decide { .. } | Call::Prepare { .. } | Call::Commit { .. } | Call::Settle { .. } => {
+            print_vote(rt, call)?
         }
+        Call::Lead { .. } | Call::Start { .. } => print_merge(rt, call)?,
+        Call::Answer { .. } | Call::NoOp { .. } => print_question::<S>(rt, operations, call)?,
     }
     Ok(())
 }

@@ -1,6 +1,6 @@
 //! An account of water that is drawn down.
 use allotment::{Allotment, Operation};
-use service::{Service, outcome};
+use service::{Service, figure};
 
 /// Grants 100 to account 3, and draws 30 four times. The balance does not suffice for the last.
 pub fn draw_until_refused(rt: &HostRuntime) -> anyhow::Result<()> {
@@ -17,7 +17,7 @@ pub fn draw_until_refused(rt: &HostRuntime) -> anyhow::Result<()> {
     let balance = allotment.apply(grant);
     println!(rt; "  grant 100: the balance is {balance}")?;
     for _ in 0..4 {
-        match outcome(allotment.apply(draw)) {
+        match figure(allotment.apply(draw)) {
             Ok(balance) => println!(rt; "  draw 30: the balance is {balance}")?,
             Err(why) => println!(rt; "  draw 30: {why}")?,
         }

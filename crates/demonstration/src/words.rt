@@ -1,5 +1,5 @@
 //! Operations and answers in words.
-use service::{Unanswered, UnknownOperation, outcome};
+use service::{Unanswered, UnknownOperation, figure};
 
 /// A service whose operations and figures are printed in words.
 pub trait InWords {
@@ -57,7 +57,7 @@ fn print_bits(rt: &HostRuntime, bits: u64, unknown: UnknownOperation) -> anyhow:
 
 /// Prints an answer to the operation of these bits: a figure, or the name of what is none.
 pub fn print_answer<S: InWords>(rt: &HostRuntime, bits: u64, answer: u64) -> anyhow::Result<()> {
-    match outcome(answer) {
+    match figure(answer) {
         Ok(figure) => S::print_figure(rt, bits, figure)?,
         Err(Unanswered::OutOfRange) => print!(rt; "out of range")?,
         Err(Unanswered::Malformed) => print!(rt; "malformed")?,
