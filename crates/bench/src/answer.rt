@@ -36,7 +36,8 @@ impl<'a, R: Register, S: Service> Bench<'a, R, S> {
         requires { slot < length self.old.status.operations.items }
         ensures answer { let stamped = book self.old.status.operations.items in
             result ≡ answer_at (service_of S.Service self.old.service.now) stamped word slot }
-        ensures kind { kind_of S.Service self.new.service.now ≡ kind_of S.Service self.old.service.now }
+        ensures kind { kind_of S.Service self.new.service.now
+            ≡ kind_of S.Service self.old.service.now }
         ensures status { self.new.status ≡ self.old.status }
         ensures setup { self.new.setup ≡ self.old.setup }
         ensures register { self.new.register ≡ self.old.register }

@@ -27,7 +27,7 @@ fn make_all<R: Register, S: Service>(bench: &mut Bench<'_, R, S>, turns: &mut [T
 
 /// Opens a bench over the register and the service, and makes every call in its turn. What comes of
 /// it is written into the turns; the bench is ended, and what it kept is handed out. The register's
-/// memory has the statements that the calls added, in order, and is else as it was.
+/// memory comes from its memory before by storing the statements that the calls added, in order.
 ///
 /// If the open is refused, on ground 3, 4 or 5 at place 0, no call is made, and register, service and
 /// turns are as they were.
@@ -41,11 +41,13 @@ pub fn run_life<R: Register, S: Service>(
     ensures life { Runs (record { f = f; mask = foreign }) (service_of S.Service service.old)
         (R.held register.old) (R.free register.old) turns.old
         result turns.new (R.held register.new) (R.free register.new) }
-    ensures memory { IfOk result (λ _. R.memory register.new ≡ fold R.stores (R.memory register.old)
+    ensures memory { IfOk result (λ _. R.memory register.new
+        ≡ fold R.stores (R.memory register.old)
         (additions (record { f = f; mask = foreign }) (service_of S.Service service.old)
         (opened (R.free register.old)) (calls_of turns.old))) }
     ensures kind { kind_of S.Service service.new ≡ kind_of S.Service service.old }
-    ensures refused { OnErr result ((register.new ≡ register.old) × (service.new ≡ service.old)) }
+    ensures refused { OnErr result
+        ((register.new ≡ register.old) × (service.new ≡ service.old)) }
 {
     match Bench::open(f, foreign, register, service) {
         Ok(mut bench) => {

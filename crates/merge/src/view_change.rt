@@ -60,7 +60,8 @@ impl ViewChange {
         base: (u8, u64),
     ) -> Result<(), Refusal>
         ensures grounds { result ≡ merge_grounds (R.held register.now) self picks.now base }
-        ensures meaning { is_ok result ≡ true → Checked (R.held register.now) self picks.now base }
+        ensures meaning { is_ok result ≡ true →
+            Checked (R.held register.now) self picks.now base }
     {
         self.check_picks(picks)?;
         let top = top(picks);
@@ -78,7 +79,8 @@ impl ViewChange {
     ) -> Result<(u8, u64), Refusal>
         ensures answer { let grounds = merge_grounds (R.held register.now) self picks.now base in
             result ≡ and_then grounds (Ok (merge base picks.now)) }
-        ensures meaning { is_ok result ≡ true → Checked (R.held register.now) self picks.now base }
+        ensures meaning { is_ok result ≡ true →
+            Checked (R.held register.now) self picks.now base }
     {
         self.check(register, picks, base)?;
         Ok(merge(picks, base))

@@ -9,7 +9,8 @@ use refusal::Refusal;
 // Enters `r`. What a grant comes to is told by members and places.
 fn enter<R: Register>(register: &mut R, r: &Record) -> Result<(), Refusal>
     ensures enters { Enters R.Register register.old r.now result register.new }
-    ensures granted { is_ok result ≡ true → InsertGranted R.Register register.old r.now register.new }
+    ensures granted { is_ok result ≡ true →
+        InsertGranted R.Register register.old r.now register.new }
 {
     register.enter(r)
 }

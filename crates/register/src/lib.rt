@@ -45,7 +45,8 @@ pub trait Register {
     /// Another statement is added and uses one free place, or, if there is none, it is refused on
     /// ground 18. Where nothing is added, set, free places and memory stay.
     fn enter(&mut self, r: &Record) -> Result<(), Refusal>
-        ensures entered { EnteredInto (held self.old) (free self.old) r.now result (held self.new) (free self.new) }
+        ensures entered { EnteredInto (held self.old) (free self.old) r.now result
+            (held self.new) (free self.new) }
         ensures memory { let added = addition (held self.old) (free self.old) r.now in
             memory self.new ≡ fold stores (memory self.old) added };
 }
