@@ -1,7 +1,7 @@
 -- The operations of the allotment service.
---   account_of op  — the account in the fields of a GRANT or a DRAW
---   amount_of op   — the amount in them
---   allotment_operation op     — the operation that the 64 bits op stand for, if any
+--   account_of op           — the account in the fields of a GRANT or a DRAW
+--   amount_of op            — the amount in them
+--   allotment_operation op  — the operation that the 64 bits op stand for, if any
 use Rattle.std.specs.Prelude.{ℕ, cond, ◌&&◌, Some, None, Option, ◌==◌}
 use Rattle.service.specs.Operations.{field}
 use Rattle.allotment.specs.declared.operation.Operation.{Operation}

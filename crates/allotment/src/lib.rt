@@ -5,7 +5,7 @@ ghost use Rattle.std.specs.Prelude.{◌≡◌, ℕ, ◌<◌, List, Option, slice
 ghost use Rattle.std.specs.Option.{ok_or};
 ghost use Rattle.service.specs.Answers.{answer_of};
 ghost use Rattle.service.specs.declared.answer.Unanswered.TheVariants.{OutOfRange};
-ghost use Rattle.allotment.specs.Balances.{no_balances, put, allotment_next, allotment_answer};
+ghost use Rattle.allotment.specs.Balances.{no_balances, with_balance, allotment_next, allotment_answer};
 ghost use Rattle.allotment.specs.Bounds.{allotment_short};
 
 use service::{Service, Unanswered};
@@ -44,7 +44,7 @@ impl Allotment {
         requires account { account < 16 }
         requires callable { F.IsAlwaysCallable change }
         ensures { (o : Option ℕ) × F.post change (slice_index self.old account) o
-            × (self.new ≡ put self.old account o) × (result ≡ ok_or o OutOfRange) }
+            × (self.new ≡ with_balance self.old account o) × (result ≡ ok_or o OutOfRange) }
     {
         let balance = &mut self.balances[usize::from(account)];
         *balance = change(*balance).ok_or(Unanswered::OutOfRange)?;

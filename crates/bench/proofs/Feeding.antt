@@ -1,12 +1,12 @@
 -- A service that is fed the operations below a slot, one after the other.
 --   Fed h z b w l r s  — a service that was z was cleared and fed the operations of the book b below the slot l, but for the no-ops of the word w, and is s now; r are the word's bits from l on
-use Rattle.std.proofs.Common.{◌≡◌, ℕ, ◌+◌, ◌/◌, ◌%◌, ◌^◌, ◌<◌, true, false, cond, eqb, List, [], ◌∷◌, ◌++◌, length, get_or, sym, refl, ap, ◌∙◌, arith, shr-shr}
+use Rattle.std.proofs.Common.{◌≡◌, ℕ, ◌+◌, ◌/◌, ◌%◌, ◌^◌, ◌<◌, true, false, cond, eqb, List, [], ◌∷◌, ◌++◌, length, get_or, option_to_list, unwrap_or, sym, refl, ap, ◌∙◌, arith, shr-shr}
 use native.Mathlib.Numerals.{unary_clauses}
 use Rattle.std.proofs.lemmas.Bool.{cond-true, cond-false}
 use Rattle.service.specs.Operations.{after}
 use Rattle.service.specs.declared.Service.{Ghosts}
 use Rattle.replica.specs.Words.{bit}
-use Rattle.protocol.specs.Service.{Book, book, listed, or_zero, fed, answer_at}
+use Rattle.protocol.specs.Service.{Book, book, fed, answer_at}
 use Rattle.protocol.proofs.Books.{book_at}
 use Rattle.bench.specs.States.{service_of}
 
@@ -21,7 +21,7 @@ after_one : {A : Type 0} (next : A → ℕ → A) (s : A) (ops : List ℕ) (o : 
 after_one next s [] o = refl
 after_one next s (x ∷ ops) o = after_one next (next s x) ops o
 
-fed_next : (b : Book) (w l : ℕ) → fed b w (l + 1) ≡ cond (bit w l) (fed b w l) (fed b w l ++ listed (b l))
+fed_next : (b : Book) (w l : ℕ) → fed b w (l + 1) ≡ cond (bit w l) (fed b w l) (fed b w l ++ option_to_list (b l))
 unfolding fed
 fed_next b w l = simp unary_clauses refl
 
@@ -43,7 +43,7 @@ module _ {S : Type 0} (h : Ghosts S) (z : S) where
             F.state
             ∙ ap
             (after h.next (h.fresh (h.state z)))
-            (sym (fed_next b w l ∙ cond-true (bit w l) (fed b w l) (fed b w l ++ listed (b l)) (first_bit w l r F.rest ∙ e)));
+            (sym (fed_next b w l ∙ cond-true (bit w l) (fed b w l) (fed b w l ++ option_to_list (b l)) (first_bit w l r F.rest ∙ e)));
         kind = F.kind;
         rest = halved w l r F.rest;
       }
@@ -60,12 +60,12 @@ module _ {S : Type 0} (h : Ghosts S) (z : S) where
             m
             ∙ ap (λ (x : h.State). h.next x o) F.state
             ∙ sym (after_one h.next first (fed (book ops) w l) o)
-            ∙ ap (λ p. after h.next first (fed (book ops) w l ++ listed p)) (sym (book_at ops l below))
+            ∙ ap (λ p. after h.next first (fed (book ops) w l ++ option_to_list p)) (sym (book_at ops l below))
             ∙ ap
             (after h.next first)
             (sym
             (fed_next (book ops) w l
-            ∙ cond-false (bit w l) (fed (book ops) w l) (fed (book ops) w l ++ listed (book ops l)) (first_bit w l r F.rest ∙ e)));
+            ∙ cond-false (bit w l) (fed (book ops) w l) (fed (book ops) w l ++ option_to_list (book ops l)) (first_bit w l r F.rest ∙ e)));
         kind = k ∙ F.kind;
         rest = halved w l r F.rest;
       }
@@ -76,4 +76,4 @@ module _ {S : Type 0} (h : Ghosts S) (z : S) where
   unfolding answer_at
   answered s ops w l r below F =
       ap (λ x. h.answer x (get_or ops l 0)) F.state
-      ∙ ap (λ p. h.answer (after h.next (h.fresh (h.state z)) (fed (book ops) w l)) (or_zero p)) (sym (book_at ops l below))
+      ∙ ap (λ p. h.answer (after h.next (h.fresh (h.state z)) (fed (book ops) w l)) (unwrap_or p 0)) (sym (book_at ops l below))

@@ -1,8 +1,8 @@
 -- What a certificate call answers, and what it writes.
---   asked_outcome a            — the outcome where a certificate call answered a
---   Written m p b c            — a buffer with the bytes b has the bytes c: a quorum of different numbers below m.replicas that pass the test p, and then the bytes as they were
---   Writes m p b a c           — a tells whether a quorum of the membership m passes the test p; if so, one is written into a buffer that had the bytes b, and c is what it has then
---   Certifies g h z c b a b'   — the certificate call c on the bench z answered a, and a witness buffer with the bytes b has the bytes b' then; g and h tell of the types of its register and its service
+--   asked_outcome a           — the outcome where a certificate call answered a
+--   Written m p b c           — a buffer with the bytes b has the bytes c: a quorum of different numbers below m.replicas that pass the test p, and then the bytes as they were
+--   Writes m p b a c          — a tells whether a quorum of the membership m passes the test p; if so, one is written into a buffer that had the bytes b, and c is what it has then
+--   Certifies g h z c b a b'  — the certificate call c on the bench z answered a, and a witness buffer with the bytes b has the bytes b' then; g and h tell of the types of its register and its service
 use Rattle.std.specs.Prelude.{◌≡◌, ◌≢◌, ℕ, ◌<◌, ◌≤◌, Bool, true, false, cond, List, ◌++◌, length, take, drop, Some, Ok, Err, Result}
 use Rattle.refusal.specs.declared.Refusal.{Refusal}
 use Rattle.record.specs.declared.Record.{Record}

@@ -1,8 +1,8 @@
 -- Opening a bench over a register and a service that are lent to it.
 -- Throughout, g tells what a register of the type R holds and how many places are free; r and s are the register and the service that are lent.
---   Opened g u r s b      — the bench b is u, newly opened: nothing is stamped, and every replica is as at opening. It holds the register and the service, which are as they were
---   HandedBack r s e      — e holds the register and the service, which are as they were
---   Opens g u r s a       — a is what opening a bench u answers: the bench where it is granted, else the refusal, with the register and the service
+--   Opened g u r s b  — the bench b is u, newly opened: nothing is stamped, and every replica is as at opening. It holds the register and the service, which are as they were
+--   HandedBack r s e  — e holds the register and the service, which are as they were
+--   Opens g u r s a   — a is what opening a bench u answers: the bench where it is granted, else the refusal, with the register and the service
 use Rattle.std.specs.Prelude.{◌≡◌, Ok, Err, Result}
 use Rattle.std.specs.Borrow.{MutBor}
 use Rattle.register.specs.declared.Register.{Ghosts}

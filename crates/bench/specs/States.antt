@@ -18,7 +18,7 @@ use Rattle.register.specs.Sets.{Set}
 use Rattle.register.specs.declared.Register as register
 use Rattle.protocol.specs.Service.{Service}
 use Rattle.protocol.specs.State.{State, addition_to}
-use Rattle.protocol.specs.Call.{Call, Deliver, Reply, Meaning, acting_outcome, meaning}
+use Rattle.protocol.specs.Call.{Call, Deliver, Reply, Meaning, Granted, if_granted, meaning}
 use Rattle.bench.specs.Setups.{setup_of}
 use Rattle.bench.specs.declared.open.Bench.{Bench}
 use Rattle.bench.specs.declared.status.Status.{Status}
@@ -51,7 +51,7 @@ module _ {R S : Type 0} (g : register.Ghosts R) (h : service.Ghosts S) (old : Be
 
   pub record Does (a : Answer) (new : Bench R S) : Type 0 where
     -- the answer, and the state afterwards, are those of the call's definition
-    pub answer : acting_outcome a ≡ meaning_of.outcome
+    pub answer : if_granted a Granted ≡ meaning_of.outcome
     pub after : state_of g new ≡ meaning_of.after
     -- the statement that it adds, if it adds one, is stored in the register's memory
     pub memory :

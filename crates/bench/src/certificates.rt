@@ -34,7 +34,8 @@ impl<'a, R: Register, S: Service> Bench<'a, R, S> {
         }
     }
 
-    // The view and the slot, or the grounds against asking for a no-op with a buffer of so many bytes.
+    // The view and the slot, or the grounds against asking for a no-op with a buffer of so many
+    // bytes.
     fn may_no_op(&self, room: usize, view: u64, slot: u64) -> Result<(u8, u8), Refusal>
         ensures { let call = AskNoOp room view slot in
             Tries R.Register S.Service self.now call (view, slot) result }
@@ -47,7 +48,8 @@ impl<'a, R: Register, S: Service> Bench<'a, R, S> {
         Ok((view, slot))
     }
 
-    // The view and the slot, or the grounds against asking for an answer with a buffer of so many bytes.
+    // The view and the slot, or the grounds against asking for an answer with a buffer of so many
+    // bytes.
     fn may_answer(&self, room: usize, view: u64, slot: u64, word: u64) -> Result<(u8, u8), Refusal>
         ensures { let call = AskAnswer room view slot word 0 in
             Tries R.Register S.Service self.now call (view, slot) result }
@@ -60,9 +62,9 @@ impl<'a, R: Register, S: Service> Bench<'a, R, S> {
     }
 
     /// Whether the answer `value` for the slot in the view, with the word of the no-ops below the
-    /// slot, is certified: whether a quorum said that REPLY. If so, a quorum of different replicas that
-    /// said it stands in the first bytes of the buffer, which has to have at least 16 bytes. It changes
-    /// nothing else. Refused on grounds 1 and 8.
+    /// slot, is certified: whether a quorum said that REPLY. If so, a quorum of different replicas
+    /// that said it stands in the first bytes of the buffer, which has to have at least 16 bytes.
+    /// It changes nothing else. Refused on grounds 1 and 8.
     pub fn answer(
         &self,
         witnesses: &mut [u8],
@@ -78,9 +80,10 @@ impl<'a, R: Register, S: Service> Bench<'a, R, S> {
         Ok(self.certify(witnesses, &Record::reply_by(0, view, slot, word, value)))
     }
 
-    /// Whether the no-op of the slot in the view is certified: whether a quorum said COMMIT of no-op
-    /// there. If so, a quorum of different replicas that said it stands in the first bytes of the
-    /// buffer, which has to have at least 16 bytes. It changes nothing else. Refused on grounds 1 and 8.
+    /// Whether the no-op of the slot in the view is certified: whether a quorum said COMMIT of
+    /// no-op there. If so, a quorum of different replicas that said it stands in the first bytes of
+    /// the buffer, which has to have at least 16 bytes. It changes nothing else. Refused on grounds
+    /// 1 and 8.
     pub fn no_op(&self, witnesses: &mut [u8], view: u64, slot: u64) -> Result<bool, Refusal>
         ensures { let call = AskNoOp (length witnesses.old) view slot in
             Certifies R.Register S.Service self.now call witnesses.old result witnesses.new }

@@ -12,7 +12,8 @@ use replica::Verdict;
 use service::Service;
 
 impl<'a, R: Register, S: Service> Bench<'a, R, S> {
-    // The replica's number and the slot, or the grounds against the call, but for the register's own.
+    // The replica's number and the slot, or the grounds against the call, but for the register's
+    // own.
     fn may_decide(&self, replica: u64, slot: u64, verdict: Verdict) -> Result<(u8, u8), Refusal>
         ensures { let call = Decide replica slot verdict in
             Tries R.Register S.Service self.now call (replica, slot) result }
@@ -26,7 +27,8 @@ impl<'a, R: Register, S: Service> Bench<'a, R, S> {
         Ok((replica, slot))
     }
 
-    /// Replica `replica`, the leader, says its DECISION on the slot. Refused on grounds 6 to 12, 15 and 18.
+    /// Replica `replica`, the leader, says its DECISION on the slot. Refused on grounds 6 to 12, 15
+    /// and 18.
     pub fn decide(&mut self, replica: u64, slot: u64, verdict: Verdict) -> Result<(), Refusal>
         ensures { let call = Decide replica slot verdict in
             Does R.Register S.Service self.old call result self.new }

@@ -23,8 +23,8 @@ impl<'a, R: Register, S: Service> Bench<'a, R, S> {
         Ok(replica)
     }
 
-    /// Replica `replica` says its answer for the slot at the end of its line, and appends an operation.
-    /// Refused on grounds 6 to 9, 11, 12 and 18.
+    /// Replica `replica` says its answer for the slot at the end of its line, and appends an
+    /// operation. Refused on grounds 6 to 9, 11, 12 and 18.
     pub fn deliver(&mut self, replica: u64, slot: u64) -> Result<(), Refusal>
         ensures { Does R.Register S.Service self.old (Deliver replica slot) result self.new }
     {

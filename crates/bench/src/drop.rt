@@ -23,8 +23,8 @@ impl<'a, R: Register, S: Service> Bench<'a, R, S> {
         Ok(replica)
     }
 
-    /// Replica `replica` says DROP for the slot at the end of its line, for which its leader said FIND.
-    /// Refused on grounds 6 to 9, 15 and 18.
+    /// Replica `replica` says DROP for the slot at the end of its line, for which its leader said
+    /// FIND. Refused on grounds 6 to 9, 15 and 18.
     pub fn drop(&mut self, replica: u64) -> Result<(), Refusal>
         ensures { Does R.Register S.Service self.old (Drop replica) result self.new }
     {

@@ -35,8 +35,8 @@ impl<'a, R: Register, S: Service> Bench<'a, R, S> {
         Ok((replica, view, line))
     }
 
-    /// Replica `replica` enters the view with a line for which a quorum said ENTRY. Refused on grounds 6,
-    /// 7, 8, 11 and 15.
+    /// Replica `replica` enters the view with a line for which a quorum said ENTRY. Refused on
+    /// grounds 6, 7, 8, 11 and 15.
     pub fn enter(&mut self, replica: u64, length: u64, word: u64, view: u64) -> Result<(), Refusal>
         ensures { let call = Enter replica length word view in
             Does R.Register S.Service self.old call result self.new }

@@ -23,8 +23,8 @@ impl<'a, R: Register, S: Service> Bench<'a, R, S> {
         Ok(replica)
     }
 
-    /// Replica `replica`, the leader, looks for the operation of the slot at the end of its line, and
-    /// says FIND. Refused on grounds 6 to 10 and 18.
+    /// Replica `replica`, the leader, looks for the operation of the slot at the end of its line,
+    /// and says FIND. Refused on grounds 6 to 10 and 18.
     pub fn find(&mut self, replica: u64) -> Result<(), Refusal>
         ensures { Does R.Register S.Service self.old (Find replica) result self.new }
     {

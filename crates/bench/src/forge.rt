@@ -20,8 +20,8 @@ impl<'a, R: Register, S: Service> Bench<'a, R, S> {
         self.setup.check_foreign(statement.signer)
     }
 
-    /// The foreign replica that signs the statement says it, whatever it is. Refused on grounds 2, 6, 7
-    /// and 18.
+    /// The foreign replica that signs the statement says it, whatever it is. Refused on grounds 2,
+    /// 6, 7 and 18.
     pub fn forge(&mut self, statement: &Record) -> Result<(), Refusal>
         ensures { Does R.Register S.Service self.old (Forge statement.now) result self.new }
     {

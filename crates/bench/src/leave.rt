@@ -12,7 +12,8 @@ use replica::Activity;
 use service::Service;
 
 impl<'a, R: Register, S: Service> Bench<'a, R, S> {
-    // The replica's number and the target, or the grounds against the call, but for the register's own.
+    // The replica's number and the target, or the grounds against the call, but for the register's
+    // own.
     fn may_leave(&self, replica: u64, target: u64) -> Result<(u8, u8), Refusal>
         ensures { let call = Leave replica target in
             Tries R.Register S.Service self.now call (replica, target) result }
@@ -27,8 +28,8 @@ impl<'a, R: Register, S: Service> Bench<'a, R, S> {
         Ok((replica, target))
     }
 
-    /// Replica `replica` leaves for the view `target`, and says VIEW-CHANGE. Refused on grounds 6, 7, 8,
-    /// 11 and 18.
+    /// Replica `replica` leaves for the view `target`, and says VIEW-CHANGE. Refused on grounds 6,
+    /// 7, 8, 11 and 18.
     pub fn leave(&mut self, replica: u64, target: u64) -> Result<(), Refusal>
         ensures { Does R.Register S.Service self.old (Leave replica target) result self.new }
     {

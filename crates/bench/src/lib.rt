@@ -1,4 +1,5 @@
-//! A bench: up to sixteen replicas over one register and one service, and every call that is made on it.
+//! A bench: up to sixteen replicas over one register and one service, and every call that is made
+//! on it.
 #![tactic(auto)]
 
 mod answer;

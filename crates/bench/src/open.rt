@@ -56,9 +56,9 @@ impl<'a, R: Register, S: Service> Bench<'a, R, S> {
         }
     }
 
-    /// Opens a bench over an empty register: nothing is stamped, and every replica is as at opening. It
-    /// is refused on the grounds that `Setup::check` tries, and then the register and the service
-    /// come back as they were.
+    /// Opens a bench over an empty register: nothing is stamped, and every replica is as at
+    /// opening. It is refused on the grounds that `Setup::check` tries, and then the register and
+    /// the service come back as they were.
     pub fn open(
         f: u64,
         foreign: u64,

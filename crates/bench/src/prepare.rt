@@ -12,7 +12,8 @@ use replica::Verdict;
 use service::Service;
 
 impl<'a, R: Register, S: Service> Bench<'a, R, S> {
-    // The replica's number and the slot, or the grounds against the call, but for the register's own.
+    // The replica's number and the slot, or the grounds against the call, but for the register's
+    // own.
     fn may_prepare(&self, replica: u64, slot: u64, verdict: Verdict) -> Result<(u8, u8), Refusal>
         ensures { let call = Prepare replica slot verdict in
             Tries R.Register S.Service self.now call (replica, slot) result }

@@ -19,7 +19,8 @@ fn below(word: u64, slot: u8) -> u64
 }
 
 impl<'a, R: Register, S: Service> Bench<'a, R, S> {
-    // The replica's number and the slot, or the grounds against the call, but for the register's own.
+    // The replica's number and the slot, or the grounds against the call, but for the register's
+    // own.
     fn may_reply(&self, replica: u64, slot: u64) -> Result<(u8, u8), Refusal>
         ensures grounds { let call = Reply replica slot in
             Tries R.Register S.Service self.now call (replica, slot) result }

@@ -24,8 +24,8 @@ impl<'a, R: Register, S: Service> Bench<'a, R, S> {
         Ok((replica, slot))
     }
 
-    /// Replica `replica` puts a verdict that a quorum committed for the slot into its line. A no-op is
-    /// sealed. Refused on grounds 6 to 9, 11 and 15.
+    /// Replica `replica` puts a verdict that a quorum committed for the slot into its line. A no-op
+    /// is sealed. Refused on grounds 6 to 9, 11 and 15.
     pub fn settle(&mut self, replica: u64, slot: u64, verdict: Verdict) -> Result<(), Refusal>
         ensures { let call = Settle replica slot verdict in
             Does R.Register S.Service self.old call result self.new }

@@ -14,8 +14,8 @@ use replica::Activity;
 use service::Service;
 
 impl<'a, R: Register, S: Service> Bench<'a, R, S> {
-    // The replica's number and the line that the picks merge to, or the grounds against the call, but for
-    // the register's own.
+    // The replica's number and the line that the picks merge to, or the grounds against the call,
+    // but for the register's own.
     fn may_start(
         &self,
         replica: u64,
@@ -44,9 +44,9 @@ impl<'a, R: Register, S: Service> Bench<'a, R, S> {
         Ok((replica, line))
     }
 
-    /// Replica `replica` says ENTRY for its target with the line that the picks merge to over a base, for
-    /// which the target's leader said VIEW-START. Refused on grounds 2, 6 to 9, 12 to 16 and 18; on 2,
-    /// 13 and 15 at the place of the pick.
+    /// Replica `replica` says ENTRY for its target with the line that the picks merge to over a
+    /// base, for which the target's leader said VIEW-START. Refused on grounds 2, 6 to 9, 12 to 16
+    /// and 18; on 2, 13 and 15 at the place of the pick.
     #[tactic(auto, using(register::proofs::Entering::adds_nothing))]
     pub fn start(
         &mut self,

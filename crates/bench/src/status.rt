@@ -6,12 +6,12 @@ use record::SIGNERS;
 use replica::{Replica, SLOTS};
 
 /// What a bench keeps besides its register and its service: the operations stamped, and every
-/// replica. There is room for 16 replicas; those that the bench has not got stay as they were at the
-/// opening.
+/// replica. There is room for 16 replicas; those that the bench has not got stay as they were at
+/// the opening.
 #[derive(Drop)]
 pub struct Status {
     pub(crate) operations: ArrayVec<u64, SLOTS>,
-    // An array of plain structs, one of which is lent to be changed.
+    // A call that changes a replica borrows its element.
     pub(crate) replicas: [Replica; SIGNERS],
 }
 

@@ -6,9 +6,10 @@ use refusal::Refusal;
 use register::Register;
 use std::cell::Cell;
 
-/// A register that counts how often it was asked and entered into, over a register below, whose set,
-/// free places and memory are its own. So it is not the value that it was after a call that adds
-/// nothing, and it is a register all the same: what is proved of every register is proved of it.
+/// A register that counts how often it was asked and entered into, over a register below, whose
+/// set, free places and memory are its own. So it is not the value that it was after a call that
+/// adds nothing, and it is a register all the same: what is proved of every register is proved of
+/// it.
 #[derive(Drop)]
 pub struct Counting<R> {
     below: R,
@@ -30,12 +31,12 @@ impl<R: Register> Counting<R> {
     }
 
     /// How often it was asked, whether about a record or whether it is empty.
-    pub fn asked(&self) -> u64 {
+    pub fn times_asked(&self) -> u64 {
         self.asked.get()
     }
 
     /// How often a record was entered, also where it was refused.
-    pub fn entered(&self) -> u64
+    pub fn times_entered(&self) -> u64
         ensures { result ≡ self.now.entered }
     {
         self.entered

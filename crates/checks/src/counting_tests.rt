@@ -35,8 +35,8 @@ fn a_life_over_a_counting_register(rt: HostRuntime) {
     let mut places = [Record::default(); 3];
     let mut counting = Counting::new(Table::new(&mut places));
     let counted = outcomes(&mut counting);
-    assert_eq!(rt; counting.entered(), 3);
-    assert!(rt; counting.asked() >= 3);
+    assert_eq!(rt; counting.times_entered(), 3);
+    assert!(rt; counting.times_asked() >= 3);
     let granted = Outcome::Granted;
     let yes = Outcome::Yes([0, 1, 2, 0, 0, 0, 0, 0, 0, 0, 0, 0, 0, 0, 0, 0]);
     assert_eq!(rt;

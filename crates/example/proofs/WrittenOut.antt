@@ -1,4 +1,4 @@
--- The example's calls come to its outcomes, and it certifies what it is said to: all computed from the definitions.
+-- The example's calls come to its outcomes, and it certified_at_end what it is said to: all computed from the definitions.
 use Rattle.std.proofs.Common.{◌≡◌, refl, arith}
 use Rattle.std.specs.Int.Count.{count_leading_zeros}
 use Rattle.record.specs.Layout.{keeps_layout}
@@ -12,7 +12,7 @@ use Rattle.protocol.specs.Service.{book, fed, answer_at}
 use Rattle.protocol.specs.Life.{state_at}
 use Rattle.protocol.specs.Law.{Signers}
 use Rattle.protocol.proofs.Entries.{signers_of_quorum}
-use Rattle.example.specs.WrittenOut.{example, OutcomesHold, LinesHold, Certifies}
+use Rattle.example.specs.WrittenOut.{example, OutcomesHold, LinesHold, CertifiedAtEnd}
 
 pub outcomes_hold : OutcomesHold
 unfolding count_leading_zeros keeps_layout same count bit with_bit one_past prepared_below book fed answer_at
@@ -27,9 +27,9 @@ three :
     (r : Record) → count 4 (said (state_at example 68).held r) ≡ 3 → Signers example 68 r
 three r e = signers_of_quorum example 68 r (omega (arith, e))
 
-pub certifies : Certifies 5 12
+pub certified_at_end : CertifiedAtEnd 5 12
 unfolding count_leading_zeros keeps_layout same count bit with_bit one_past prepared_below book fed answer_at
-certifies =
+certified_at_end =
     record {
       answered = three (reply_by 0 0 0 0 5) refl;
       skipped = three (commit_by 0 0 1 1) refl;

@@ -1,15 +1,15 @@
 -- A life written out, in which answers and a no-op are certified, and stay certified over a change of view.
---   totals            — a service: it answers the sum of what it was fed and the operation
---   four              — a bench of four replicas, of which the last is foreign
---   four_opens        — its open is granted over an empty register
---   change i          — the VIEW-CHANGE that replica i says in the example
---   picks             — those of replicas 0, 1 and 2
---   table             — the calls, each with what comes of it
---   example           — the life of these calls
---   example_outcomes  — what comes of each of its calls
---   OutcomesHold      — these are its outcomes
---   LinesHold         — after 59 calls, right after they entered view 1, replicas 0, 1 and 2 have the line of length 2 with a no-op at slot 1
---   Certifies a b     — at the end the answer a for slot 0, the no-op at slot 1 and the answer b for slot 2 are certified, as the law says it
+--   totals              — a service: it answers the sum of what it was fed and the operation
+--   four                — a bench of four replicas, of which the last is foreign
+--   four_opens          — its open is granted over an empty register
+--   change i            — the VIEW-CHANGE that replica i says in the example
+--   example_picks       — those of replicas 0, 1 and 2
+--   table               — the calls, each with what comes of it
+--   example             — the life of these calls
+--   example_outcomes    — what comes of each of its calls
+--   OutcomesHold        — these are its outcomes
+--   LinesHold           — after 59 calls, right after they entered view 1, replicas 0, 1 and 2 have the line of length 2 with a no-op at slot 1
+--   CertifiedAtEnd a b  — at the end the answer a for slot 0, the no-op at slot 1 and the answer b for slot 2 are certified, as the law says it
 -- In view 0 slot 0 is answered and slot 1 skipped; in view 1 slot 2 is answered, past the no-op.
 -- The register has as many places as different statements are said, so at the end it is full.
 -- Every ground is met but the three of the open, which is granted, and that of the 64 slots.
@@ -43,8 +43,8 @@ four_opens = refl
 abbrev pub change : ℕ → Record
 change i = view_change_by i 1 0 2 2
 
-abbrev pub picks : List Record
-picks = change 0 ∷ change 1 ∷ change 2 ∷ []
+abbrev pub example_picks : List Record
+example_picks = change 0 ∷ change 1 ∷ change 2 ∷ []
 
 abbrev pub table : List (Call × Outcome)
 table =
@@ -98,15 +98,15 @@ table =
     ∷ (Lead 1 (change 0 ∷ change 1 ∷ change 0 ∷ []) 0 0, Refused (refused Picks 2))
     ∷ (Leave 2 1, Granted)
     ∷ (Deliver 2 1, Refused (refused Mode 0))
-    ∷ (Lead 0 picks 0 0, Refused (refused NotLeader 0))
-    ∷ (Lead 1 picks 1 0, Refused (refused BaseNotCertified 0))
-    ∷ (Start 0 picks 0 0, Refused (refused ViewStartMissing 0))
-    ∷ (Lead 1 picks 0 0, Granted)
-    ∷ (Start 0 picks 0 0, Granted)
-    ∷ (Start 1 picks 0 0, Granted)
+    ∷ (Lead 0 example_picks 0 0, Refused (refused NotLeader 0))
+    ∷ (Lead 1 example_picks 1 0, Refused (refused BaseNotCertified 0))
+    ∷ (Start 0 example_picks 0 0, Refused (refused ViewStartMissing 0))
+    ∷ (Lead 1 example_picks 0 0, Granted)
+    ∷ (Start 0 example_picks 0 0, Granted)
+    ∷ (Start 1 example_picks 0 0, Granted)
     ∷ (Enter 0 2 2 1, Refused (refused StatementsMissing 0))
-    ∷ (Start 2 picks 0 0, Granted)
-    ∷ (Start 2 picks 0 0, Refused (refused Barred 0))
+    ∷ (Start 2 example_picks 0 0, Granted)
+    ∷ (Start 2 example_picks 0 0, Refused (refused Barred 0))
     ∷ (Enter 0 2 0 1, Refused (refused StatementsMissing 0))
     ∷ (Enter 0 2 2 1, Granted)
     ∷ (Enter 1 2 2 1, Granted)
@@ -139,7 +139,7 @@ LinesHold =
     × (replica_at (state_at example 59) 1 ≡ entered 1 2 2)
     × (replica_at (state_at example 59) 2 ≡ entered 1 2 2)
 
-pub record Certifies (a b : ℕ) : Type 0 where
+pub record CertifiedAtEnd (a b : ℕ) : Type 0 where
   pub answered : AnswerCertified example 68 0 0 0 a
   pub skipped : NoOpCertified example 68 0 1
   pub answered_past : AnswerCertified example 68 1 2 2 b

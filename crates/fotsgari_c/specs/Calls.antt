@@ -1,19 +1,19 @@
 -- Calls of C, as the rules have them.
---   verdict_of n    — the verdict of the number n
---   picks_of rs i n — the n records of rs from the place i on
---   Picks rs i n r  — r are these records, or what is wrong with them
---   record_at rs i  — the record of rs at the place i
---   given_with a k  — the call k of what a gave, or what is wrong with it
---   vote m i s n    — the call of the number m, of the four with a verdict, where the verdict has the number n
---   merging_call m rs a — the call of the number m with the arguments a, of the two with picks
---   reading rs m a  — the call of the number m with the arguments a, where rs are the records
---   read rs c       — the call that c stands for, or what is wrong with it
---   meant a         — the call a of code, as the rules have it, or what is wrong with it
---   before a r      — a and then the list r, or the first thing that is wrong with them
---   each f xs       — what f gives for each of xs, or what is wrong with the first for which it gives nothing
---   read_all rs cs  — the calls that cs stand for, or what is wrong with the first that stands for none
---   IsFault a e     — e is what is wrong with a, or a lack of memory
---   ReadsAll rs cs r — r are turns, still to come, with the calls that cs stand for, or else a fault
+--   verdict_of n         — the verdict of the number n
+--   picks_of rs i n      — the n records of rs from the place i on
+--   Picks rs i n r       — r are these records, or what is wrong with them
+--   record_at rs i       — the record of rs at the place i
+--   given_with a k       — the call k of what a gave, or what is wrong with it
+--   vote m i s n         — the call of the number m, of the four with a verdict, where the verdict has the number n
+--   merging_call m rs a  — the call of the number m with the arguments a, of the two with picks
+--   reading rs m a       — the call of the number m with the arguments a, where rs are the records
+--   read rs c            — the call that c stands for, or what is wrong with it
+--   meant a              — the call a of code, as the rules have it, or what is wrong with it
+--   before a r           — a and then the list r, or the first thing that is wrong with them
+--   each f xs            — what f gives for each of xs, or what is wrong with the first for which it gives nothing
+--   read_all rs cs       — the calls that cs stand for, or what is wrong with the first that stands for none
+--   IsFault a e          — e is what is wrong with a, or a lack of memory
+--   ReadsAll rs cs r     — r are turns, still to come, with the calls that cs stand for, or else a fault
 use Rattle.std.specs.Prelude.{◌≡◌, ℕ, ◌+◌, cond, ◌&&◌, ◌⊎◌, List, [], ◌∷◌, length, take, drop, Ok, Err, Result, ◌==◌, nat_le, slice_index, slice_get}
 use Rattle.std.specs.Borrow.{Bor}
 use Rattle.std.specs.Global.{Vec}

@@ -7,7 +7,8 @@ use record::Record;
 use replica::Verdict;
 use std::alloc::Global;
 
-/// A call: its number, and its arguments in the order of docs/PROTOCOL.md. Any number is allowed in each.
+/// A call: its number, and its arguments in the order of docs/PROTOCOL.md. Any number is allowed in
+/// each.
 #[repr(C)]
 #[derive(Clone, Copy, Debug)]
 pub struct Call {

@@ -18,8 +18,8 @@ use record::Record;
 pub use status::{Replica, Status};
 use std::alloc::Global;
 
-/// Runs a life of a bench with the rating service, over an empty register on the tape, and tells what
-/// came of it. The answer is 0, or the number of a fault: then nothing is written.
+/// Runs a life of a bench with the rating service, over an empty register on the tape, and tells
+/// what came of it. The answer is 0, or the number of a fault: then nothing is written.
 #[unsafe(no_mangle)]
 pub extern "C" fn fotsgari_run_rating(
     alloc: Global,
@@ -48,8 +48,8 @@ pub extern "C" fn fotsgari_run_rating(
     )
 }
 
-/// Runs a life of a bench with the allotment service, over an empty register on the tape, and tells what
-/// came of it. The answer is 0, or the number of a fault: then nothing is written.
+/// Runs a life of a bench with the allotment service, over an empty register on the tape, and tells
+/// what came of it. The answer is 0, or the number of a fault: then nothing is written.
 #[unsafe(no_mangle)]
 pub extern "C" fn fotsgari_run_allotment(
     alloc: Global,

@@ -27,7 +27,8 @@ pub struct Status {
     pub stamped: u64,
     /// The operations stamped, that of slot 0 first, and then zeros.
     pub operations: [u64; SLOTS],
-    /// The replicas by their numbers. Those that the bench has not got are as they were at the opening.
+    /// The replicas by their numbers. Those that the bench has not got are as they were at the
+    /// opening.
     pub replicas: [Replica; SIGNERS],
 }
 

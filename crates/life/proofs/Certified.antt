@@ -9,7 +9,6 @@ use Rattle.std.proofs.lemmas.List.{get_or-take, get_or-drop, get_or_append_left,
 use Rattle.refusal.specs.Grounds.{Answer, unless}
 use Rattle.refusal.specs.declared.Ground.TheVariants.{BufferLength}
 use Rattle.refusal.specs.declared.Refusal.{Refusal}
-use Rattle.record.specs.declared.Record.{Record}
 use Rattle.quorum.specs.Quorums.{said, Witnesses}
 use Rattle.quorum.specs.declared.Membership.{Membership}
 use Rattle.protocol.specs.Setup.{members}

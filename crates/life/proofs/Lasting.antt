@@ -1,5 +1,5 @@
 -- A life that was run to its end.
-use Rattle.std.proofs.Common.{◌≡◌, ℕ, zero, suc, ◌<◌, ◌≤◌, true, false, ◌≢◌, eqb, List, [], ◌∷◌, length, get_or, take, Ok, sym, refl, ap, ◌∙◌, subst, arith}
+use Rattle.std.proofs.Common.{◌≡◌, ℕ, zero, suc, ◌<◌, ◌≤◌, true, false, ◌≢◌, eqb, List, [], ◌∷◌, length, get_or, take, sym, refl, ap, ◌∙◌, subst, arith}
 use Rattle.std.proofs.lemmas.List.{length-map, length-take-le}
 use Rattle.std.proofs.lemmas.Bool.{ne_eqb}
 use Rattle.std.proofs.lemmas.Option.{slice_get_within}
@@ -14,7 +14,6 @@ use Rattle.quorum.specs.Quorums.{said, signed_by}
 use Rattle.protocol.specs.Setup.{Setup, members, quorum_size}
 use Rattle.protocol.specs.Service.{Service}
 use Rattle.protocol.specs.State.{State, opened, opened_over}
-use Rattle.protocol.specs.Open.{open_grounds}
 use Rattle.protocol.specs.Call as rules
 use Rattle.protocol.specs.Life.{Life, run, state_at, additions}
 use Rattle.protocol.proofs.Entries.{entered_of_held}
@@ -27,7 +26,7 @@ use Rattle.bench.specs.Opening.{Opened}
 use Rattle.bench.specs.declared.open.Bench.{Bench}
 use Rattle.life.specs.Calls.{call_of, calls_of}
 use Rattle.life.specs.Making.{Backed, Made, Underway}
-use Rattle.life.specs.Lives.{WitnessesOf, CameOf, Ran, Lived, life_of}
+use Rattle.life.specs.Lives.{WitnessesOf, Ran, life_of}
 use Rattle.life.specs.declared.call.Turn.{Turn}
 use Rattle.std.specs.Borrow.{MutBor}
 
@@ -97,46 +96,46 @@ module _
 
     module _ (before after : List Turn) (c : Bench R S) (U : Underway g h b (calls_of before) (length after) after c)
       where
-      abbrev y : Life
-      y = life_of u V (g.free r.now) before granted.grounds
+        abbrev y : Life
+        y = life_of u V (g.free r.now) before granted.grounds
 
-      abbrev cs : List rules.Call
-      cs = calls_of before
+        abbrev cs : List rules.Call
+        cs = calls_of before
 
-      as_many : length after ≡ length cs
-      as_many = sym (length-map after (λ (t : Turn). call_of t.call)) ∙ ap length U.calls
+        as_many : length after ≡ length cs
+        as_many = sym (length-map after (λ (t : Turn). call_of t.call)) ∙ ap length U.calls
 
-      all_made : take (length after) cs ≡ cs
-      all_made = ap (λ n. take n cs) as_many ∙ take-length cs
+        all_made : take (length after) cs ≡ cs
+        all_made = ap (λ n. take n cs) as_many ∙ take-length cs
 
-      -- every call was made on it
-      pub ran : Short V → (z : State) → state_of g c ≡ z → Ran u V (g.held r.now) (g.free r.now) before after z
-      ran short z e =
-          record {
-            granted = granted;
-            lived =
-                record {
-                  calls = U.calls;
-                  came = λ k t at.
-                      let M = from_open (λ v W x. Made v W x (calls_of before) k t) (U.made k t (slice_get_within after k t at) at) in
-                      record { outcome = M.outcome; witnesses = λ w r' f q. witnesses_of y k r' w (M.witnesses w r' f q) };
-                  state =
-                      sym e
-                      ∙ from_open (λ v W x. state_of g c ≡ run v W x (take (length after) cs)) U.state
-                      ∙ ap (λ j. run u V (opened (g.free r.now)) (take j cs)) as_many;
-                  rules = keeps_rules y;
-                  refusals = refuses_own_or_full y short;
-                  ledger = one_ledger y;
-                };
-          }
+        -- every call was made on it
+        pub ran : Short V → (z : State) → state_of g c ≡ z → Ran u V (g.held r.now) (g.free r.now) before after z
+        ran short z e =
+            record {
+              granted = granted;
+              lived =
+                  record {
+                    calls = U.calls;
+                    came = λ k t at.
+                        let M = from_open (λ v W x. Made v W x (calls_of before) k t) (U.made k t (slice_get_within after k t at) at) in
+                        record { outcome = M.outcome; witnesses = λ w r' f q. witnesses_of y k r' w (M.witnesses w r' f q) };
+                    state =
+                        sym e
+                        ∙ from_open (λ v W x. state_of g c ≡ run v W x (take (length after) cs)) U.state
+                        ∙ ap (λ j. run u V (opened (g.free r.now)) (take j cs)) as_many;
+                    rules = keeps_rules y;
+                    refusals = refuses_own_or_full y short;
+                    ledger = one_ledger y;
+                  };
+            }
 
-      pub stored :
-          (q : R) → c.register.now ≡ q
-          → g.memory q ≡ fold g.stores (g.memory r.now) (additions u V (opened (g.free r.now)) (calls_of before))
-      stored q e =
-          let all = λ (p : R) (ds : List rules.Call). fold g.stores (g.memory p) (additions u V (opened (g.free r.now)) ds) in
-          let first = fold g.stores (g.memory b.register.now) in
-          sym (ap g.memory e)
-          ∙ from_open (λ v W x. g.memory c.register.now ≡ first (additions v W x (take (length after) cs))) U.memory
-          ∙ ap (λ p. all p (take (length after) cs)) O.register
-          ∙ ap (all r.now) all_made
+        pub stored :
+            (q : R) → c.register.now ≡ q
+            → g.memory q ≡ fold g.stores (g.memory r.now) (additions u V (opened (g.free r.now)) (calls_of before))
+        stored q e =
+            let all = λ (p : R) (ds : List rules.Call). fold g.stores (g.memory p) (additions u V (opened (g.free r.now)) ds) in
+            let first = fold g.stores (g.memory b.register.now) in
+            sym (ap g.memory e)
+            ∙ from_open (λ v W x. g.memory c.register.now ≡ first (additions v W x (take (length after) cs))) U.memory
+            ∙ ap (λ p. all p (take (length after) cs)) O.register
+            ∙ ap (all r.now) all_made

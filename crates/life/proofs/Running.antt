@@ -1,16 +1,15 @@
 -- A life while it runs: the first calls are made, and the others are still to be made.
 use Rattle.std.proofs.Common.{◌≡◌, ℕ, zero, suc, ◌+◌, ◌<◌, List, [], ◌∷◌, ◌++◌, length, get_or, set, take, Some, Ok, Err, slice_get, option_map, sym, refl, ap, ◌∙◌, subst, inl, inr, arith}
 use Rattle.std.proofs.Math.Numerals.{suc-eq-add-one}
-use Rattle.std.proofs.Math.Seq.{map-set_same, take-length}
+use Rattle.std.proofs.Math.Seq.{map-set_same}
 use Rattle.std.specs.List.{fold}
 use Rattle.std.proofs.lemmas.Bool.{cases_lt}
-use Rattle.std.proofs.lemmas.List.{append_assoc, append-nil, length-map}
+use Rattle.std.proofs.lemmas.List.{append_assoc, append-nil}
 use Rattle.std.proofs.lemmas.List.Sums.{fold-append}
 use Rattle.std.proofs.lemmas.Option.{slice_get-get_or, slice_get-map}
 use Rattle.service.specs.Operations.{after}
 use Rattle.service.specs.declared.Service as service
 use Rattle.refusal.specs.Grounds.{Answer}
-use Rattle.record.specs.declared.Record.{Record}
 use Rattle.register.specs.declared.Register as register
 use Rattle.quorum.specs.Quorums.{said}
 use Rattle.protocol.specs.Setup.{Setup, members}
@@ -21,7 +20,7 @@ use Rattle.protocol.specs.Life.{run, outcomes, additions}
 use Rattle.bench.specs.Setups.{setup_of}
 use Rattle.bench.specs.States.{service_of, kind_of, state_of, meaning_of, Does}
 use Rattle.bench.specs.declared.open.Bench.{Bench}
-use Rattle.life.specs.Calls.{call_of, calls_of, without_witnesses, granted_or_refused}
+use Rattle.life.specs.Calls.{call_of, without_witnesses, granted_or_refused}
 use Rattle.life.specs.Making.{Backed, Keeps, Makes, Made, Underway}
 use Rattle.life.specs.declared.call.Outcome.{Outcome}
 use Rattle.life.specs.declared.call.Outcome.TheVariants.{Yes}
@@ -73,7 +72,7 @@ module _ (u : Setup) (V : Service) where
 
 -- ---- one call on a bench
 
-told_of_answer : (a : Answer) → without_witnesses (granted_or_refused a) ≡ rules.acting_outcome a
+told_of_answer : (a : Answer) → without_witnesses (granted_or_refused a) ≡ rules.if_granted a rules.Granted
 told_of_answer (Ok t) = refl
 told_of_answer (Err e) = refl
 

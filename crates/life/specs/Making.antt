@@ -1,10 +1,10 @@
 -- Calls while a life runs: what making one comes to, and what is known once the first of them are made.
 -- Throughout, g tells what a register of the bench's type holds, how many places are free, and what its memory is; h tells what a service of its type answers.
---   Backed m p w                 — w has at least a quorum of the membership m; the first numbers, as many as a quorum, are different, are below m.replicas and pass the test p, and the others are 0
---   Keeps h old new              — the bench new has the setup of the bench old, the register and the service that were lent to it, and a service of the same kind
---   Makes g h old c o new        — the call c was made on the bench old; o came of it, and the bench is new then
---   Made u V x cs j t            — the turn t has what came of the call in the place j of the calls cs, which were made in turn from the state x of a bench u with the service V
---   Underway g h old cs k ts new — of the turns ts, with the calls cs, the first k were made on the bench old, which is new then
+--   Backed m p w                  — w has at least a quorum of the membership m; the first numbers, as many as a quorum, are different, are below m.replicas and pass the test p, and the others are 0
+--   Keeps h old new               — the bench new has the setup of the bench old, the register and the service that were lent to it, and a service of the same kind
+--   Makes g h old c o new         — the call c was made on the bench old; o came of it, and the bench is new then
+--   Made u V x cs j t             — the turn t has what came of the call in the place j of the calls cs, which were made in turn from the state x of a bench u with the service V
+--   Underway g h old cs k ts new  — of the turns ts, with the calls cs, the first k were made on the bench old, which is new then
 use Rattle.std.specs.Prelude.{◌≡◌, ℕ, ◌<◌, ◌≤◌, Bool, List, length, take, Some, slice_get}
 use Rattle.std.specs.List.{fold}
 use Rattle.record.specs.declared.Record.{Record}

@@ -106,7 +106,8 @@ pub enum Call<'a> {
 pub enum Outcome {
     /// It was granted.
     Granted,
-    /// It is certified: the first bytes are a quorum of different replicas that said it, the others 0.
+    /// It is certified: the first bytes are a quorum of different replicas that said it, the others
+    /// 0.
     Yes([u8; SIGNERS]),
     /// It is not certified.
     No,

@@ -29,8 +29,8 @@ fn make_all<R: Register, S: Service>(bench: &mut Bench<'_, R, S>, turns: &mut [T
 /// it is written into the turns; the bench is ended, and what it kept is handed out. The register's
 /// memory comes from its memory before by storing the statements that the calls added, in order.
 ///
-/// If the open is refused, on ground 3, 4 or 5 at place 0, no call is made, and register, service and
-/// turns are as they were.
+/// If the open is refused, on ground 3, 4 or 5 at place 0, no call is made, and register, service
+/// and turns are as they were.
 pub fn run_life<R: Register, S: Service>(
     f: u64,
     foreign: u64,

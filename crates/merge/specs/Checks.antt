@@ -8,22 +8,21 @@
 --   prepared_below s m t w k  — for each bit l below k of the word w, a quorum said PREPARE of no-op for slot l in view t; shut
 --   prepared s m t w          — the same for all 64 bits
 --   backed s m t p            — p is in the register; and, if its last is t, its word is prepared in view t
---   certified s m t b         — the base b is certified for view t: 0 and 0 for view 0, else a quorum said ENTRY for view t with it
+--   certified s m t b         — as a test, whether view t starts from the base b: view 0 from length 0 and word 0, a later view from a line for which a quorum said ENTRY
 --   pick_grounds v ps         — refused unless there are as many picks as a quorum, then at the first pick that does not fit
---   base_grounds s m t b      — refused unless the base b is certified for view t
+--   base_grounds s m t b      — refused unless view t starts from the base b
 --   backing_grounds s m t ps  — refused at the first pick that is not backed
 --   merge_grounds s v ps b    — the grounds against merging the picks ps over the base b, in order
---   Certified s m t b         — the base b is certified for view t
+--   Certified s m t b         — view t starts from the base b, as a fact
 --   signers ps                — the signers of ps, in their order
 --   Picked s v t p            — p is a good pick for the target where t is the greatest last
 --   Checked s v ps b          — ps are good picks for the target over the base b
-use Rattle.std.specs.Prelude.{◌≡◌, ℕ, zero, suc, ◌+◌, ◌<◌, ◌≤◌, Bool, true, cond, not, ◌&&◌, ◌||◌, ◌⊎◌, List, [], ◌∷◌, length, map, take, Ok, Err, Result, ◌==◌, nat_eq, nat_le, nat_lt, ◌≢◌, AllPairs}
+use Rattle.std.specs.Prelude.{◌≡◌, ℕ, zero, suc, ◌+◌, ◌<◌, ◌≤◌, Bool, true, cond, not, ◌&&◌, ◌||◌, ◌⊎◌, List, [], ◌∷◌, length, map, take, Ok, ◌==◌, nat_eq, nat_le, nat_lt, ◌≢◌, AllPairs}
 use Rattle.std.specs.Borrow.{Bor}
 use Rattle.std.specs.List.{AllByRecursion, list_any}
 use Rattle.refusal.specs.Grounds.{Answer, unless, and_then}
 use Rattle.refusal.specs.declared.Ground.{Ground}
 use Rattle.refusal.specs.declared.Ground.TheVariants.{Layout, Picks, BaseNotCertified, StatementsMissing}
-use Rattle.refusal.specs.declared.Refusal.{Refusal}
 use Rattle.record.specs.Layout.{keeps_layout}
 use Rattle.record.specs.Statements.{prepare_by, entry_by}
 use Rattle.record.specs.declared.Record.{Record}

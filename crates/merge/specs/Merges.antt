@@ -1,9 +1,9 @@
 -- The merge of the picks for a view change: the VIEW-CHANGE statements of a quorum.
---   top ps               — the greatest last of the picks ps
---   merged_length t n ps — the greatest of n and the reaches of the picks whose last is t
---   merged_word t w ps   — the bits of the word w and of the words of the picks whose last is t
---   merge b ps           — the line that the picks merge to over the base b: a pair, length and word
---   MergesAlike          — the same picks in another order merge alike
+--   top ps                — the greatest last of the picks ps
+--   merged_length t n ps  — n, or the furthest reach of a pick whose last is t, if that is more
+--   merged_word t w ps    — w with every bit that the word of a pick has whose last is t
+--   merge b ps            — the line that the picks merge to over the base b: a pair, length and word
+--   MergesAlike           — in which order picks are given makes no difference to their merge
 use Rattle.std.specs.Prelude.{◌≡◌, ℕ, max, cond, List, [], ◌∷◌, ◌==◌, bit_or}
 use mathlib.Core.List.{Perm}
 use Rattle.record.specs.declared.Record.{Record}

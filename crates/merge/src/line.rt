@@ -1,6 +1,5 @@
 //! The line that picks merge to.
-// Merging answers a pair, length and word. Picks and base stay two arguments,
-// as the calls have them.
+// A line is a pair here, length and word: lead and start say it, and enter has one to compare.
 ghost use Rattle.std.specs.Prelude.{◌≡◌, max, bit_or};
 ghost use Rattle.merge.specs.Merges.{merge, MergesAlike};
 
@@ -8,7 +7,7 @@ use crate::picks::top;
 use record::Record;
 
 // The line with the reach and the word of a pick.
-fn joined(line: (u8, u64), pick: &Record) -> (u8, u64)
+fn with_pick(line: (u8, u64), pick: &Record) -> (u8, u64)
     ensures { result ≡ (max line.0 pick.now.slot, bit_or line.1 pick.now.word) }
 {
     (line.0.max(pick.slot), line.1 | pick.word)
@@ -24,7 +23,7 @@ pub fn merge(picks: &[Record], base: (u8, u64)) -> (u8, u64)
     let mut line = base;
     for pick in picks {
         if pick.last == top {
-            line = joined(line, pick);
+            line = with_pick(line, pick);
         }
     }
     line

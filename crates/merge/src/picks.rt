@@ -8,8 +8,8 @@ ghost use Rattle.merge.specs.Checks.{first_fault, Computes, layout_grounds, sign
 use record::Record;
 use refusal::{Ground, Refusal};
 
-// Refuses the first pick that fails the test, at its place. The test sees the picks before it too.
-// Picks are checked by `for`, with the index for the place of a refusal.
+// Refuses the first pick that fails the test, at its place, which is its index in the slice. The
+// test sees the picks before it too.
 pub(crate) fn first_fault<F: Fn(&[Record], &Record) -> bool>(
     picks: &[Record],
     why: Ground,

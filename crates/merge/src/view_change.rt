@@ -25,8 +25,8 @@ pub struct ViewChange {
 }
 
 impl ViewChange {
-    // Whether a pick fits after those before it: it is a VIEW-CHANGE for the target by a replica that
-    // signs none of them, and, if its last is `top`, its reach is at most the stamped slots.
+    // Whether a pick fits after those before it: it is a VIEW-CHANGE for the target by a replica
+    // that signs none of them, and, if its last is `top`, its reach is at most the stamped slots.
     fn fits(self, top: u8, before: &[Record], pick: &Record) -> bool
         ensures { result ≡ fits self top before.now pick.now }
     {
@@ -37,7 +37,8 @@ impl ViewChange {
             && (pick.last != top || pick.slot <= self.stamped)
     }
 
-    // Refuses unless there is a quorum of picks; then refuses the first that does not fit, at its place.
+    // Refuses unless there is a quorum of picks; then refuses the first that does not fit, at its
+    // place.
     fn check_picks(self, picks: &[Record]) -> Result<(), Refusal>
         ensures { result ≡ pick_grounds self picks.now }
     {

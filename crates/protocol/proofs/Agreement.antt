@@ -11,10 +11,11 @@ use Rattle.record.specs.declared.Record.{Record}
 use Rattle.register.specs.Sets.{Set}
 use Rattle.quorum.specs.Quorums.{said, signed_by}
 use Rattle.replica.specs.Words.{bit}
-use Rattle.protocol.specs.Setup.{Setup, QuorumSaid}
+use Rattle.protocol.specs.Setup.{Setup}
 use Rattle.protocol.specs.Service.{Service}
 use Rattle.protocol.specs.Model.{Model, stamps}
 use Rattle.protocol.specs.Rules.{Said}
+use Rattle.protocol.proofs.Quorums.{QuorumSaid}
 use Rattle.protocol.proofs.Starting.{Started}
 use Rattle.protocol.proofs.Counting.{intersect, member}
 use Rattle.protocol.proofs.Invariant.{Inv, Merged, Competing, Covers, Change, reply_of, prepare_of, commit_of, change_of, merged_of}

@@ -1,10 +1,10 @@
 -- The laws of books: a stamped slot stays stamped with its operation, and services that are fed alike answer alike.
 --   Grown b b'  — the book b' keeps every operation of the book b
-use Rattle.std.proofs.Common.{◌≡◌, ℕ, zero, suc, ◌<◌, ◌≤◌, Bool, cond, List, [], ◌∷◌, ◌++◌, length, get_or, Some, None, Option, sym, refl, ap, ◌∙◌, ap₂, inl, inr, arith, length-append}
+use Rattle.std.proofs.Common.{◌≡◌, ℕ, zero, suc, ◌<◌, ◌≤◌, Bool, cond, List, [], ◌∷◌, ◌++◌, length, get_or, Some, None, Option, option_to_list, sym, refl, ap, ◌∙◌, ap₂, inl, inr, arith, length-append}
 use lib.ListN.{get_or-append}
 use Rattle.std.proofs.lemmas.Bool.{cond-true, cases_lt, lt-ltb, le-ltb, cond-false}
 use Rattle.replica.specs.Words.{bit}
-use Rattle.protocol.specs.Service.{Book, book, is_stamped, Known, Service, listed, fed, operation_at, answer_at}
+use Rattle.protocol.specs.Service.{Book, book, is_stamped, Known, Service, fed, operation_at, answer_at}
 
 abbrev pub Grown : Book → Book → Type 0
 Grown b b' = (l o : ℕ) → b l ≡ Some o → b' l ≡ Some o
@@ -54,7 +54,7 @@ pub grown_same : (b b' : Book) → Grown b b' → (l : ℕ) → Known b l → b 
 grown_same b b' g l k = k.1 ∙ sym (g l k.0 k.1)
 
 fed_step : Bool → List ℕ → Option ℕ → List ℕ
-fed_step t xs o = cond t xs (xs ++ listed o)
+fed_step t xs o = cond t xs (xs ++ option_to_list o)
 
 -- words with the same bits, and books with the same operations, below s feed alike
 fed_alike :

@@ -10,7 +10,7 @@ use Rattle.replica.specs.Verdicts.{verdict_number}
 use Rattle.replica.specs.declared.Replica.{Replica}
 use Rattle.replica.specs.declared.Verdict.{Verdict}
 use Rattle.replica.specs.declared.Verdict.TheVariants.{Operation, NoOp}
-use Rattle.protocol.specs.Setup.{Setup, replicas, quorum_size, foreign, leader, change_to}
+use Rattle.protocol.specs.Setup.{Setup, replicas, foreign, leader, change_to}
 use Rattle.merge.specs.Checks.{layout_grounds, merge_grounds}
 use Rattle.merge.specs.Merges.{merge}
 use Rattle.merge.proofs.Checking.{checked_from}
@@ -31,8 +31,8 @@ use Rattle.protocol.specs.Forge.{forge}
 use Rattle.protocol.specs.Lead.{lead}
 use Rattle.protocol.specs.Start.{start}
 use Rattle.protocol.specs.Enter.{enter}
-use Rattle.protocol.specs.Answer.{answer_grounds, answer_certified}
-use Rattle.protocol.specs.NoOp.{no_op_grounds, no_op_certified}
+use Rattle.protocol.specs.Answer.{answer_grounds}
+use Rattle.protocol.specs.NoOp.{no_op_grounds}
 use Rattle.protocol.specs.Call.{Call, Stamp, Deliver, Find, Drop, Decide, Prepare, Commit, Settle, Reply, Leave, Forge, Lead, Start, Enter, AskAnswer, AskNoOp, acting, meaning}
 use Rattle.protocol.specs.Model.{stamps, says}
 use Rattle.protocol.specs.Rules as moves
@@ -46,8 +46,8 @@ module _ (u : Setup) (V : Service) (x : State) (S : Sound u V x) where
   low : (i : ℕ) → i < replicas u → i < 16
   low i h = omega (arith, S.faults)
 
-  works : (i : ℕ) → foreign u i ≡ false → (replica_at x i).target ≤ (replica_at x i).view → Works u i (replica_at x i)
-  works i f h = record { honest = f; at_work = let t = (S.inv.good i f).bounds.ahead in omega (arith, t) }
+  works : (i : ℕ) → foreign u i ≡ false → (replica_at x i).target ≤ (replica_at x i).view → Works (replica_at x i)
+  works i f h = let t = (S.inv.good i f).bounds.ahead in omega (arith, t)
 
   opens : (i s : ℕ) → (replica_at x i).base ≤ s → s ≤ (replica_at x i).length → s < length x.stamped → Open (stamps (model x)) (replica_at x i) s
   opens i s from to h = record { from = from; to = to; known = known_below x.stamped s h }
@@ -78,7 +78,7 @@ module _ (u : Setup) (V : Service) (x : State) (S : Sound u V x) where
           → Allowed u V (model x) (says i (delivered r) (reply_by i r.view l r.word (answer_at V (book x.stamped) r.word l)))
 
       at_length : At r.length
-      at_length e = moves.deliver i (works i (search rules) (search rules)) (through r.length (search rules)) (search rules)
+      at_length e = moves.act i _ (search rules) (moves.deliver (works i (search rules) (search rules)) (through r.length (search rules)) (search rules))
 
   deliver_step : (i s : ℕ) → Kept u V x (acting x (deliver u V x i s))
   deliver_step i s =
@@ -87,20 +87,21 @@ module _ (u : Setup) (V : Service) (x : State) (S : Sound u V x) where
   find_step : (i : ℕ) → Kept u V x (acting x (find u x i))
   find_step i =
       speaks_only u V x S (find u x i).grounds i _
-      (λ e. (low i (search rules), moves.find i (works i (search rules) (search rules)) (search rules) (known_below x.stamped _ (search rules))))
+      (λ e. (low i (search rules), moves.act i _ (search rules) (moves.find (works i (search rules) (search rules)) (search rules) (known_below x.stamped _ (search rules)))))
 
   drop_step : (i : ℕ) → Kept u V x (acting x (drop u x i))
   drop_step i =
       speaks_only u V x S (drop u x i).grounds i _
-      (λ e. (low i (search rules), moves.drop i (works i (search rules) (search rules)) (search rules) (known_below x.stamped _ (search rules))))
+      (λ e. (low i (search rules), moves.act i _ (search rules) (moves.drop (works i (search rules) (search rules)) (search rules) (known_below x.stamped _ (search rules)))))
 
   decide_step : (i s : ℕ) (d : Verdict) → Kept u V x (acting x (decide u x i s d))
   decide_step i s d =
       speaks_only u V x S (decide u x i s d).grounds i _
       (λ e. (
         low i (search rules),
-        moves.decide i s d (works i (search rules) (search rules)) (opens i s (search rules) (search rules) (search rules))
-            (search rules) (drops_by _ s d (search rules)) (search rules),
+        moves.act i _ (search rules)
+            (moves.decide s d (works i (search rules) (search rules)) (opens i s (search rules) (search rules) (search rules))
+            (search rules) (drops_by _ s d (search rules)) (search rules)),
       ))
 
   prepare_step : (i s : ℕ) (d : Verdict) → Kept u V x (acting x (prepare u x i s d))
@@ -108,8 +109,9 @@ module _ (u : Setup) (V : Service) (x : State) (S : Sound u V x) where
       speaks_only u V x S (prepare u x i s d).grounds i _
       (λ e. (
         low i (search rules),
-        moves.prepare i s d (works i (search rules) (search rules)) (opens i s (search rules) (search rules) (search rules))
-            (search rules) (drops_by _ s d (search rules)) (search rules),
+        moves.act i _ (search rules)
+            (moves.prepare s d (works i (search rules) (search rules)) (opens i s (search rules) (search rules) (search rules))
+            (search rules) (drops_by _ s d (search rules)) (search rules)),
       ))
 
   commit_step : (i s : ℕ) (d : Verdict) → Kept u V x (acting x (commit u x i s d))
@@ -117,8 +119,9 @@ module _ (u : Setup) (V : Service) (x : State) (S : Sound u V x) where
       speaks u V x S (commit u x i s d).grounds i _ _
       (λ e. (
         low i (search rules),
-        moves.commit i s d (works i (search rules) (search rules)) (opens i s (search rules) (search rules) (search rules))
-            (search rules),
+        moves.act i _ (search rules)
+            (moves.commit s d (works i (search rules) (search rules)) (opens i s (search rules) (search rules) (search rules))
+            (search rules)),
       ))
 
   settle_step : (i s : ℕ) (d : Verdict) → Kept u V x (acting x (settle u x i s d))
@@ -126,18 +129,19 @@ module _ (u : Setup) (V : Service) (x : State) (S : Sound u V x) where
       turns u V x S (settle u x i s d).grounds i _
       (λ e. (
         low i (search rules),
-        moves.settle i s d (works i (search rules) (search rules)) (opens i s (search rules) (search rules) (search rules))
-            (search rules),
+        moves.act i _ (search rules)
+            (moves.settle s d (works i (search rules) (search rules)) (opens i s (search rules) (search rules) (search rules))
+            (search rules)),
       ))
 
   reply_step : (i s : ℕ) → Kept u V x (acting x (reply u V x i s))
   reply_step i s =
       speaks_only u V x S (reply u V x i s).grounds i _
-      (λ e. (low i (search rules), moves.reply i s (works i (search rules) (search rules)) (through s (search rules)) (search rules) (search rules)))
+      (λ e. (low i (search rules), moves.act i _ (search rules) (moves.reply s (works i (search rules) (search rules)) (through s (search rules)) (search rules) (search rules))))
 
   leave_step : (i t : ℕ) → Kept u V x (acting x (leave u x i t))
   leave_step i t =
-      speaks u V x S (leave u x i t).grounds i _ _ (λ e. (low i (search rules), moves.leave i t (search rules) (search rules) (search rules)))
+      speaks u V x S (leave u x i t).grounds i _ _ (λ e. (low i (search rules), moves.act i _ (search rules) (moves.leave t (search rules) (search rules))))
 
   forge_step : (r : Record) → Kept u V x (acting x (forge u x r))
   forge_step r = forged u V x S (forge u x r).grounds r (λ e. (search rules, moves.forge r (search rules)))
@@ -145,14 +149,14 @@ module _ (u : Setup) (V : Service) (x : State) (S : Sound u V x) where
   enter_step : (i n w v : ℕ) → Kept u V x (acting x (enter u x i n w v))
   enter_step i n w v =
       turns u V x S (enter u x i n w v).grounds i _
-      (λ e. (low i (search rules), moves.enter i v n w (search rules) (search rules) (search rules) (search rules)))
+      (λ e. (low i (search rules), moves.act i _ (search rules) (moves.enter v n w (search rules) (search rules) (search rules))))
 
   lead_step : (i : ℕ) (ps : List Record) (n w : ℕ) → Kept u V x (acting x (lead u x i ps n w))
   lead_step i ps n w =
       speaks_only u V x S (lead u x i ps n w).grounds i _
       (λ e.
       let rest = (both_granted (layout_grounds ps) _ e).1 in
-      (low i (search rules), moves.lead i ps (n, w) (record { honest = search rules; leaving = search rules }) (search rules) (checked_from _ _ ps (n, w) (search rules))))
+      (low i (search rules), moves.act i _ (search rules) (moves.lead ps (n, w) (search rules) (search rules) (checked_from _ _ ps (n, w) (search rules)))))
 
   start_step : (i : ℕ) (ps : List Record) (n w : ℕ) → Kept u V x (acting x (start u x i ps n w))
   start_step i ps n w =
@@ -167,8 +171,8 @@ module _ (u : Setup) (V : Service) (x : State) (S : Sound u V x) where
       let merges = parts.0 in
       let leads = parts.1 in (
         low i (search rules),
-        moves.start i ps (n, w) (record { honest = search rules; leaving = search rules }) (search rules) (search rules)
-            (checked_from _ _ ps (n, w) merges),
+        moves.act i _ (search rules)
+            (moves.start ps (n, w) (search rules) (search rules) (search rules) (checked_from _ _ ps (n, w) merges)),
       ))
 
   -- every call is a step of the rules
@@ -187,5 +191,5 @@ module _ (u : Setup) (V : Service) (x : State) (S : Sound u V x) where
   call_step (Lead i ps n w) = lead_step i ps n w
   call_step (Start i ps n w) = start_step i ps n w
   call_step (Enter i n w v) = enter_step i n w v
-  call_step (AskAnswer b v s w a) = asks u V x S (answer_grounds x b v s w) (answer_certified u x v s w a)
-  call_step (AskNoOp b v s) = asks u V x S (no_op_grounds x b v s) (no_op_certified u x v s)
+  call_step (AskAnswer b v s w a) = asks u V x S (answer_grounds x b v s w) _
+  call_step (AskNoOp b v s) = asks u V x S (no_op_grounds x b v s) _

@@ -3,9 +3,10 @@
 use Rattle.std.proofs.Common.{◌≡◌, ℕ, ◌%◌, ◌^◌, true, false, Some}
 use Rattle.record.specs.Statements.{reply_by, commit_by}
 use Rattle.replica.specs.Words.{bit}
-use Rattle.protocol.specs.Setup.{Setup, QuorumSaid}
+use Rattle.protocol.specs.Setup.{Setup}
 use Rattle.protocol.specs.Service.{Service, single}
 use Rattle.protocol.specs.Model.{Model, stamps}
+use Rattle.protocol.proofs.Quorums.{QuorumSaid}
 
 pub record Certificates (u : Setup) (V : Service) (m : Model) (line : ℕ) : Type 0 where
   pub operation : (v s w a : ℕ) → QuorumSaid u m.held (reply_by 0 v s w a) → bit line s ≡ false

@@ -5,7 +5,8 @@
 use Rattle.std.proofs.Common.{◌≡◌, ℕ, zero, suc, ◌+◌, ◌<◌, ◌≤◌, Bool, true, false, cond, not, ◌&&◌, ◌||◌, eqb, refl, ap, subst, inl, inr, arith}
 use Rattle.std.proofs.lemmas.Bool.{both_ways, and_parts, not-true, ne_eqb, eq-eqb, or_left, cases_eq}
 use Rattle.quorum.specs.Quorums.{count}
-use Rattle.protocol.specs.Setup.{Setup, replicas, foreign, Many}
+use Rattle.protocol.specs.Setup.{Setup, replicas, foreign}
+use Rattle.protocol.proofs.Quorums.{Many}
 
 abbrev pub Few : Setup → Type 0
 Few u = count (replicas u) (foreign u) ≤ u.f

@@ -8,7 +8,7 @@ use Rattle.record.specs.Same.{same}
 use Rattle.record.specs.declared.Record.{Record}
 use Rattle.record.proofs.Same.{same_decides, same_refl}
 use Rattle.quorum.specs.Quorums.{said, signed_by}
-use Rattle.protocol.specs.Setup.{Setup, replicas, quorum_size, QuorumSaid}
+use Rattle.protocol.specs.Setup.{Setup, replicas, quorum_size}
 use Rattle.protocol.specs.Service.{Service, book}
 use Rattle.protocol.specs.State.{State, Action, opened, register_answer, answer_to, held_with}
 use Rattle.protocol.specs.Stamp.{stamp}
@@ -29,6 +29,7 @@ use Rattle.protocol.specs.Rules.{Said}
 use Rattle.protocol.specs.Call.{Call, Outcome, Meaning, Stamp, Deliver, Find, Drop, Decide, Prepare, Commit, Settle, Reply, Leave, Forge, Lead, Start, Enter, AskAnswer, AskNoOp, acting, meaning}
 use Rattle.protocol.specs.Life.{Life, run, outcomes, EnteredBy, state_at}
 use Rattle.protocol.specs.Law.{Entered, Signers}
+use Rattle.protocol.proofs.Quorums.{QuorumSaid}
 use Rattle.protocol.proofs.Books.{Grown, grown_refl, book_push}
 use Rattle.protocol.proofs.Signing.{count_of_list, list_of_count, different}
 use Rattle.protocol.proofs.Stepping.{entered_held}

@@ -24,10 +24,11 @@ use Rattle.record.specs.declared.Record.{Record}
 use Rattle.register.specs.Sets.{Set}
 use Rattle.replica.specs.Words.{bit}
 use Rattle.replica.specs.declared.Replica.{Replica}
-use Rattle.protocol.specs.Setup.{Setup, replicas, foreign, Many, QuorumSaid}
+use Rattle.protocol.specs.Setup.{Setup, replicas, foreign}
 use Rattle.protocol.specs.Service.{Service, Book, Known, answer_at}
 use Rattle.protocol.specs.Model.{Model, stamps}
 use Rattle.protocol.specs.Rules.{Said, Upto}
+use Rattle.protocol.proofs.Quorums.{Many, QuorumSaid}
 use Rattle.protocol.proofs.Starting.{Started}
 use Rattle.protocol.proofs.Counting.{Few}
 

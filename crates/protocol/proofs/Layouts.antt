@@ -13,7 +13,7 @@ use Rattle.replica.proofs.Words.{one_past_under, one_past_most}
 use Rattle.protocol.specs.Setup.{Setup, foreign}
 use Rattle.protocol.specs.Service.{Service, Book, Known, answer_at}
 use Rattle.protocol.specs.Model.{Model, stamps, Move, rests, stamping, forges, becomes, says}
-use Rattle.protocol.specs.Rules.{Allowed, Leaves, Merging, rest, stamp, deliver, find, drop, decide, prepare, commit, settle, reply, leave, forge, lead, start, enter}
+use Rattle.protocol.specs.Rules.{Acts, Allowed, Leaves, Merging, act, rest, stamp, deliver, find, drop, decide, prepare, commit, settle, reply, leave, forge, lead, start, enter}
 use Rattle.protocol.proofs.Books.{all_stamped}
 use Rattle.protocol.proofs.Invariant.{Inv}
 use Rattle.protocol.proofs.Keeping.{slot_low}
@@ -55,29 +55,32 @@ module _ (u : Setup) (V : Service) (short : Short V) (m : Model) (I : Inv u V m)
 
   -- a merged line: VIEW-START or ENTRY
   line_layout :
-      (k i : ℕ) (ps : List Record) (b : ℕ × ℕ) → 8 ≤ k → k ≤ 9 → Leaves u i (m.replica i) → Merging u m (m.replica i).target ps b → i < 16
+      (k i : ℕ) (ps : List Record) (b : ℕ × ℕ) → 8 ≤ k → k ≤ 9 → foreign u i ≡ false → Leaves (m.replica i) → Merging u m (m.replica i).target ps b → i < 16
       → Layout (record { kind = k; signer = i; view = (m.replica i).target; last = 0; slot = (merge b ps).0; verdict = 0; word = (merge b ps).1; result = 0 })
-  line_layout k i ps b from to w C low =
-      omega (arith, w.leaving, (I.good i w.honest).bounds, merge_small u V m I (m.replica i).target ps b C, merge_stamped u V m I (m.replica i).target ps b C, I.short)
+  line_layout k i ps b from to f w C low =
+      omega (arith, w, (I.good i f).bounds, merge_small u V m I (m.replica i).target ps b C, merge_stamped u V m I (m.replica i).target ps b C, I.short)
+
+  acts_layout : (i : ℕ) (a : Move) → foreign u i ≡ false → Acts u V m i (m.replica i) a → SaysLayout a
+  acts_layout i a f (settle s d w O q) = tt
+  acts_layout i a f (enter t n w p q Q) = tt
+  acts_layout i a f (deliver w p d) =
+      let G = I.good i f in
+      λ low. omega (arith, low, G.bounds, G.line.small, slot_low u V m I (m.replica i).length (p (m.replica i).length (omega arith)), answer_small (stamps m) (m.replica i).word (m.replica i).length)
+  acts_layout i a f (find w e p) = gap_layout 2 i (m.replica i).length (omega arith) (omega arith) f p
+  acts_layout i a f (drop w e p) = gap_layout 3 i (m.replica i).length (omega arith) (omega arith) f p
+  acts_layout i a f (decide s d w O e q n) = vote_layout 4 i s d (omega arith) (omega arith) f O.known
+  acts_layout i a f (prepare s d w O e q n) = vote_layout 5 i s d (omega arith) (omega arith) f O.known
+  acts_layout i a f (commit s d w O q) = vote_layout 6 i s d (omega arith) (omega arith) f O.known
+  acts_layout i a f (reply s w p q z) =
+      λ low. omega (arith, low, (I.good i f).bounds, slot_low u V m I s (p s (omega arith)), mod-lt (m.replica i).word (pow_pos s), answer_small (stamps m) (m.replica i).word s)
+  acts_layout i a f (leave t p q) =
+      let G = I.good i f in
+      λ low. omega (arith, low, p, q, G.bounds, reach_small (m.replica i) G.bounds.small, line_short i f, one_past_most (m.replica i).sealed)
+  acts_layout i a f (lead ps b w e C) = line_layout 8 i ps b (omega arith) (omega arith) f w C
+  acts_layout i a f (start ps b w k e C) = line_layout 9 i ps b (omega arith) (omega arith) f w C
 
   pub allowed_layout : (a : Move) → Allowed u V m a → SaysLayout a
   allowed_layout a rest = tt
   allowed_layout a (stamp op p) = tt
   allowed_layout a (forge x p) = tt
-  allowed_layout a (settle i s d w O q) = tt
-  allowed_layout a (enter i t n w f p q Q) = tt
-  allowed_layout a (deliver i w p d) =
-      let G = I.good i w.honest in
-      λ low. omega (arith, low, G.bounds, G.line.small, slot_low u V m I (m.replica i).length (p (m.replica i).length (omega arith)), answer_small (stamps m) (m.replica i).word (m.replica i).length)
-  allowed_layout a (find i w e p) = gap_layout 2 i (m.replica i).length (omega arith) (omega arith) w.honest p
-  allowed_layout a (drop i w e p) = gap_layout 3 i (m.replica i).length (omega arith) (omega arith) w.honest p
-  allowed_layout a (decide i s d w O e q n) = vote_layout 4 i s d (omega arith) (omega arith) w.honest O.known
-  allowed_layout a (prepare i s d w O e q n) = vote_layout 5 i s d (omega arith) (omega arith) w.honest O.known
-  allowed_layout a (commit i s d w O q) = vote_layout 6 i s d (omega arith) (omega arith) w.honest O.known
-  allowed_layout a (reply i s w p q z) =
-      λ low. omega (arith, low, (I.good i w.honest).bounds, slot_low u V m I s (p s (omega arith)), mod-lt (m.replica i).word (pow_pos s), answer_small (stamps m) (m.replica i).word s)
-  allowed_layout a (leave i t f p q) =
-      let G = I.good i f in
-      λ low. omega (arith, low, p, q, G.bounds, reach_small (m.replica i) G.bounds.small, line_short i f, one_past_most (m.replica i).sealed)
-  allowed_layout a (lead i ps b w e C) = line_layout 8 i ps b (omega arith) (omega arith) w C
-  allowed_layout a (start i ps b w k e C) = line_layout 9 i ps b (omega arith) (omega arith) w C
+  allowed_layout b (act i a f p) = acts_layout i a f p

@@ -7,16 +7,17 @@ use Rattle.record.specs.Statements.{reply_by, commit_by}
 use Rattle.record.specs.declared.Record.{Record}
 use Rattle.quorum.specs.Quorums.{count, said, signed_by}
 use Rattle.replica.specs.Words.{bit}
-use Rattle.protocol.specs.Setup.{replicas, quorum_size, QuorumSaid}
+use Rattle.protocol.specs.Setup.{replicas, quorum_size}
 use Rattle.protocol.specs.Service.{book, is_stamped, Known}
 use Rattle.protocol.specs.State.{opened}
 use Rattle.protocol.specs.Grounds.{reached}
 use Rattle.protocol.specs.Answer.{answer_grounds}
 use Rattle.protocol.specs.NoOp.{no_op_grounds}
-use Rattle.protocol.specs.Call.{AskAnswer, AskNoOp, Yes, No, asking_outcome}
+use Rattle.protocol.specs.Call.{AskAnswer, AskNoOp, Yes, No, if_granted}
 use Rattle.protocol.specs.Life.{Life, state_at}
 use Rattle.protocol.specs.Law.{Signers, AnswerCertified, NoOpCertified, Agrees, OneLedger}
 use Rattle.protocol.specs.Steps.{model}
+use Rattle.protocol.proofs.Quorums.{QuorumSaid}
 use Rattle.protocol.proofs.Books.{stamped_below}
 use Rattle.protocol.proofs.Certificates.{Certificates}
 use Rattle.protocol.proofs.Counting.{member, many_mono, Honest}
@@ -35,7 +36,7 @@ signers_on y j k r le s = signers_of_quorum y k r (quorum_on y j k r le (quorum_
 -- what a certificate call for r answers, where its grounds are g
 yes_of_signers :
     (y : Life) (k : ℕ) (r : Record) (g : Answer) → is_ok g ≡ true → Signers y k r
-    → asking_outcome g (reached y.bench (state_at y k) r) ≡ Yes
+    → if_granted g (cond (reached y.bench (state_at y k) r) Yes No) ≡ Yes
 yes_of_signers y k r (Ok t) e s =
     cond-true (reached y.bench (state_at y k) r) Yes No
     (le-leb (quorum_size y.bench) (count (replicas y.bench) (said (state_at y k).held r)) (quorum_of_signers y k r s))
@@ -46,7 +47,7 @@ certified_if_yes true e = refl
 certified_if_yes false e = cc
 
 signers_of_yes :
-    (y : Life) (k : ℕ) (r : Record) (g : Answer) → asking_outcome g (reached y.bench (state_at y k) r) ≡ Yes → Signers y k r
+    (y : Life) (k : ℕ) (r : Record) (g : Answer) → if_granted g (cond (reached y.bench (state_at y k) r) Yes No) ≡ Yes → Signers y k r
 signers_of_yes y k r (Ok t) e =
     signers_of_quorum y k r
     (leb-true (quorum_size y.bench) (count (replicas y.bench) (said (state_at y k).held r))
@@ -112,10 +113,14 @@ module _
           answers_last = λ j k v s w a le _ q. signers_on y j k (reply_by 0 v s w a) le q;
           no_ops_last = λ j k v s le _ q. signers_on y j k (commit_by 0 v s 1) le q;
           stamped_last = λ j k l o le _ e. stamped_on y j k le l o e;
-          answer_yes = λ k v s w a _ q. yes_of_signers y k (reply_by 0 v s w a) _ (answer_granted y k (good k) v s w a q) q;
-          yes_answer = λ k v s w a _ e. signers_of_yes y k (reply_by 0 v s w a) (answer_grounds (state_at y k) 16 v s w) e;
-          no_op_yes = λ k v s _ q. yes_of_signers y k (commit_by 0 v s 1) _ (no_op_granted y k (good k) v s q) q;
-          yes_no_op = λ k v s _ e. signers_of_yes y k (commit_by 0 v s 1) (no_op_grounds (state_at y k) 16 v s) e;
+          answer_yes = λ k v s w a _. (
+            λ q. yes_of_signers y k (reply_by 0 v s w a) _ (answer_granted y k (good k) v s w a q) q,
+            λ e. signers_of_yes y k (reply_by 0 v s w a) (answer_grounds (state_at y k) 16 v s w) e,
+          );
+          no_op_yes = λ k v s _. (
+            λ q. yes_of_signers y k (commit_by 0 v s 1) _ (no_op_granted y k (good k) v s q) q,
+            λ e. signers_of_yes y k (commit_by 0 v s 1) (no_op_grounds (state_at y k) 16 v s) e,
+          );
           told_answer = λ k b v s w a e f.
               let yes = outcome_at y.bench y.service k y.calls (opened y.places) (AskAnswer b v s w a) Yes e f in
               let below = slice_get_within y.calls k (AskAnswer b v s w a) e in

@@ -14,10 +14,11 @@ use Rattle.replica.proofs.Words.{bit_above}
 use Rattle.merge.specs.Merges.{top, merged_length, merged_word, merge}
 use Rattle.merge.specs.Checks.{signers, Picked}
 use Rattle.merge.proofs.Lines.{top_over, top_below, length_base, length_picks, length_least, word_below, word_base, word_picks, word_from}
-use Rattle.protocol.specs.Setup.{Setup, replicas, quorum_size, QuorumSaid, change_to}
+use Rattle.protocol.specs.Setup.{Setup, replicas, change_to}
 use Rattle.protocol.specs.Service.{Service, Known}
 use Rattle.protocol.specs.Model.{Model, stamps}
 use Rattle.protocol.specs.Rules.{Said, Merging}
+use Rattle.protocol.proofs.Quorums.{QuorumSaid}
 use Rattle.protocol.proofs.Starting.{Started}
 use Rattle.protocol.proofs.Books.{known_below, all_stamped}
 use Rattle.protocol.proofs.Counting.{member}

@@ -1,7 +1,7 @@
 -- The one line with which all that a model certifies agrees.
 --   no_op_at u h v b l  — whether slot l is a no-op: below the length of the base b as b has it, from there on if a quorum committed it in view v
 --   Latest u m k        — a view that started, not below the view of any honest replica below k
-use Rattle.std.proofs.Common.{◌≡◌, ℕ, zero, suc, ◌%◌, ◌^◌, ◌<◌, ◌≤◌, Bool, true, false, cond, Some, sym, refl, ap, ◌∙◌, subst, inl, inr, arith, mod-lt, pow_pos, ltb}
+use Rattle.std.proofs.Common.{◌≡◌, ℕ, zero, suc, ◌%◌, ◌^◌, ◌<◌, ◌≤◌, Bool, true, false, cond, Some, option_map, sym, refl, ap, ◌∙◌, subst, inl, inr, arith, mod-lt, pow_pos, ltb}
 use Rattle.std.proofs.lemmas.Bool.{both_ways, cases_lt, cases_Bool, cond-true, cond-false, lt-ltb, le-ltb, leb-true, le-leb}
 use Rattle.record.specs.Statements.{reply_by, commit_by}
 use Rattle.record.specs.declared.Record.{Record}
@@ -9,9 +9,10 @@ use Rattle.register.specs.Sets.{Set}
 use Rattle.quorum.specs.Quorums.{said, signed_by, quorum}
 use Rattle.replica.specs.Words.{bit}
 use Rattle.replica.proofs.Words.{word_of, word_of_lt, bit_word_of, bit_mod, bit_ext, bit_above}
-use Rattle.protocol.specs.Setup.{Setup, replicas, quorum_size, foreign, QuorumSaid, members}
-use Rattle.protocol.specs.Service.{Service, answer_at, single, if_some}
+use Rattle.protocol.specs.Setup.{Setup, replicas, foreign, members}
+use Rattle.protocol.specs.Service.{Service, answer_at, single}
 use Rattle.protocol.specs.Model.{Model, stamps}
+use Rattle.protocol.proofs.Quorums.{QuorumSaid}
 use Rattle.protocol.proofs.Starting.{Started}
 use Rattle.protocol.proofs.Books.{answer_alike}
 use Rattle.protocol.proofs.Counting.{member}
@@ -142,7 +143,7 @@ module _ (u : Setup) (V : Service) (m : Model) (I : Inv u V m) where
         let g = reply_of u V m I r.who r.honest v s w a r.says in
         let alike = answer_alike V B B w line s (λ _ _. refl) (λ l h. sym (answer_bits l (omega arith))) in
         cond-false (bit line s) _ _ answer_slot
-        ∙ ap (λ o. if_some o (answer_at V B line s)) (g.stamped s (omega arith)).1
+        ∙ ap (λ o. option_map (λ _. answer_at V B line s) o) (g.stamped s (omega arith)).1
         ∙ ap Some (sym (g.right ∙ alike))
 
   pub one_line : (line : ℕ) × (line < 2 ^ 64) × Certificates u V m line

@@ -9,8 +9,9 @@ use Rattle.record.proofs.Same.{same_decides}
 use Rattle.record.specs.Same.{same}
 use Rattle.register.specs.Sets.{Set, added}
 use Rattle.quorum.specs.Quorums.{said}
-use Rattle.protocol.specs.Setup.{Setup, QuorumSaid}
+use Rattle.protocol.specs.Setup.{Setup}
 use Rattle.protocol.specs.Rules.{Said}
+use Rattle.protocol.proofs.Quorums.{QuorumSaid}
 use Rattle.protocol.proofs.Starting.{Started}
 use Rattle.protocol.proofs.Counting.{many_mono}
 use Rattle.protocol.proofs.Invariant.{Unique, Competing, Once}

@@ -10,9 +10,10 @@ use Rattle.replica.specs.Replicas.{longer, delivered}
 use Rattle.replica.specs.declared.Replica.{Replica}
 use Rattle.replica.proofs.Words.{bit_mod, bit_above}
 use Rattle.replica.proofs.Lines.{longer_is}
-use Rattle.protocol.specs.Setup.{Setup, QuorumSaid}
+use Rattle.protocol.specs.Setup.{Setup}
 use Rattle.protocol.specs.Service.{Service, Book, answer_at}
 use Rattle.protocol.specs.Rules.{Said, Works, Upto}
+use Rattle.protocol.proofs.Quorums.{QuorumSaid}
 use Rattle.protocol.proofs.Books.{grown_refl, answer_alike}
 use Rattle.protocol.proofs.Saying.{view_of, slot_of, added_cases, added_other, Grows, added_grows, quorum_grows, started_grows}
 use Rattle.protocol.proofs.Invariant.{Line, Reply, Fact, Past, Good}
@@ -54,12 +55,12 @@ module _ (u : Setup) (V : Service) (h : Set) (B : Book) (i : ℕ) (r : Replica) 
       (plain_fact u V (added h x) B i r x P b)
       (λ y e k. absurd (omega (arith, k.unique, P)))
 
-module _ (u : Setup) (V : Service) (h : Set) (B : Book) (i : ℕ) (r : Replica) (G : Good u V h B i r) (W : Works u i r) where
+module _ (u : Setup) (V : Service) (h : Set) (B : Book) (i : ℕ) (r : Replica) (G : Good u V h B i r) (W : Works r) where
   -- a REPLY of its view says nothing new of a view that it left
   own_replies : (s w a : ℕ) (v s' w' a' : ℕ) → v < r.target → Said (added h (reply_by i r.view s w a)) (reply_by i v s' w' a') → Said h (reply_by i v s' w' a')
   own_replies s w a v s' w' a' p e =
       elim (added_cases h (reply_by i r.view s w a) (reply_by i v s' w' a') e) [
-        | inl y ↦ absurd (omega (arith, view_of y, W.at_work))
+        | inl y ↦ absurd (omega (arith, view_of y, W))
         | inr y ↦ y
       ]
 

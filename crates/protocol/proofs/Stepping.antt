@@ -2,7 +2,7 @@
 --   Sound u V x    — what stays true of a bench in its lives, in the state x
 --   Moved u V x y  — a step from the state x to y that keeps the number of places for replicas
 --   Kept u V x m   — what a call with the meaning m keeps, in the state x
-use Rattle.std.proofs.Common.{◌≡◌, ℕ, ◌<◌, ◌≤◌, Bool, true, false, ◌⊎◌, eqb, Option, List, [], ◌∷◌, ◌++◌, length, get_or, set, is_ok, Some, None, Ok, Err, sym, refl, ap, ◌∙◌, subst, inl, inr, arith}
+use Rattle.std.proofs.Common.{◌≡◌, ℕ, ◌<◌, ◌≤◌, Bool, true, false, cond, ◌⊎◌, eqb, Option, List, [], ◌∷◌, ◌++◌, length, get_or, set, is_ok, Some, None, Ok, Err, sym, refl, ap, ◌∙◌, subst, inl, inr, arith}
 use Rattle.std.proofs.lemmas.List.{get_or-set_same, get_or-set_other, length-set}
 use Rattle.std.proofs.lemmas.Bool.{cases_Bool, cases_eq, cond-true, cond-false, cond_both, eq-eqb, ne_eqb, or_left}
 use Rattle.std.proofs.lemmas.Bool.Decides.{nat_tests}
@@ -21,7 +21,7 @@ use Rattle.replica.specs.declared.Replica.{Replica}
 use Rattle.protocol.specs.Setup.{Setup}
 use Rattle.protocol.specs.Service.{Service}
 use Rattle.protocol.specs.State.{State, replica_at, Action, register_answer, answer_to, held_with, free_with}
-use Rattle.protocol.specs.Call.{Meaning, Refused, acting_outcome, asking_outcome, acting, asking}
+use Rattle.protocol.specs.Call.{Meaning, Yes, No, Granted, Refused, if_granted, acting, asking}
 use Rattle.protocol.specs.Model.{placed, Move, rests, stamping, forges, becomes, says, apply, InLayout}
 use Rattle.protocol.specs.Rules.{Allowed, rest}
 use Rattle.protocol.specs.Steps.{model, MovesByRules, OwnOrFull}
@@ -46,18 +46,18 @@ pub record Kept (u : Setup) (V : Service) (x : State) (m : Meaning) : Type 0 whe
 own_or_full : (x : State) (a : Action) → (is_ok a.grounds ≡ true → (r : Record) → a.says ≡ Some r → Layout r) → OwnOrFull (acting x a)
 own_or_full x a f = record { either = by_grounds a.grounds a.says f }
   where
-    full : (r : Record) → Layout r → (e : Refusal) → acting_outcome (entering x.held x.free r) ≡ Refused e → e ≡ refused RegisterFull 0
+    full : (r : Record) → Layout r → (e : Refusal) → if_granted (entering x.held x.free r) Granted ≡ Refused e → e ≡ refused RegisterFull 0
     full r l e h = let k = layout_to r l in grind (arith, nat_tests)
 
     by_grounds : (g : Answer) (o : Option Record) → (is_ok g ≡ true → (r : Record) → o ≡ Some r → Layout r) → (e : Refusal)
-        → acting_outcome (and_then g (register_answer x o)) ≡ Refused e → (g ≡ Err e) ⊎ (e ≡ refused RegisterFull 0)
+        → if_granted (and_then g (register_answer x o)) Granted ≡ Refused e → (g ≡ Err e) ⊎ (e ≡ refused RegisterFull 0)
     by_grounds (Err e') o f e h = inl cc
     by_grounds (Ok t) None f e h = cc
     by_grounds (Ok t) (Some r) f e h = inr (full r (f refl r refl) e h)
 
 module _ (s : Set) (n : ℕ) (r : Record) (ok : is_ok (entering s n r) ≡ true) where
-  entered_layout : Layout r
-  entered_layout = let k : keeps_layout r ≡ true = grind (arith, nat_tests) in layout_from r k
+  entered_layout : keeps_layout r ≡ true
+  entered_layout = grind (arith, nat_tests)
 
   member_same : s r ≡ true → (y : Record) → s y ≡ added s r y
   member_same m y =
@@ -110,7 +110,7 @@ module _ (u : Setup) (V : Service) (x : State) (S : Sound u V x) where
   pub asks : (a : Answer) (b : Bool) → Kept u V x (asking x a b)
   asks a b = record { step = stays.step; room = S.room; refusals = λ _. record { either = own a b } }
     where
-      own : (a : Answer) (b : Bool) (e : Refusal) → asking_outcome a b ≡ Refused e → (a ≡ Err e) ⊎ (e ≡ refused RegisterFull 0)
+      own : (a : Answer) (b : Bool) (e : Refusal) → if_granted a (cond b Yes No) ≡ Refused e → (a ≡ Err e) ⊎ (e ≡ refused RegisterFull 0)
       own (Err e') b e h = inl cc
       own (Ok t) true e h = cc
       own (Ok t) false e h = cc

@@ -7,16 +7,17 @@ use Rattle.record.specs.Statements.{reply_by, drop_by, prepare_by, commit_by}
 use Rattle.record.specs.declared.Record.{Record}
 use Rattle.register.specs.Sets.{Set, added}
 use Rattle.replica.specs.Words.{bit}
-use Rattle.replica.specs.Verdicts.{verdict_number, other_verdict, is_no_op, with_verdict, sealed_with}
+use Rattle.replica.specs.Verdicts.{verdict_number, other_verdict, with_verdict, sealed_with}
 use Rattle.replica.specs.Replicas.{longer, committed, settled}
 use Rattle.replica.specs.declared.Replica.{Replica}
 use Rattle.replica.specs.declared.Verdict.{Verdict}
 use Rattle.replica.specs.declared.Verdict.TheVariants.{Operation, NoOp}
-use Rattle.replica.proofs.Words.{verdict_same, verdict_other, verdict_lt, sealed_keeps, sealed_sets, sealed_lt}
+use Rattle.replica.proofs.Words.{is_no_op, verdict_same, verdict_other, verdict_lt, sealed_keeps, sealed_sets, sealed_lt}
 use Rattle.replica.proofs.Lines.{longer_is}
-use Rattle.protocol.specs.Setup.{Setup, QuorumSaid}
+use Rattle.protocol.specs.Setup.{Setup}
 use Rattle.protocol.specs.Service.{Service, Book, Known}
 use Rattle.protocol.specs.Rules.{Said, Works, Open}
+use Rattle.protocol.proofs.Quorums.{QuorumSaid}
 use Rattle.protocol.proofs.Books.{grown_refl}
 use Rattle.protocol.proofs.Saying.{view_of, added_cases, added_other, Grows, added_grows, quorum_grows, started_grows, as_prepare}
 use Rattle.protocol.proofs.Invariant.{Competing, Good}
@@ -63,7 +64,7 @@ reaches s n h k =
     let t = eqb-false s n e in
     record { over = omega arith; past = omega (arith, t); grown = λ l p. inl p })
 
-module _ (u : Setup) (V : Service) (h : Set) (B : Book) (i : ℕ) (r : Replica) (G : Good u V h B i r) (W : Works u i r) where
+module _ (u : Setup) (V : Service) (h : Set) (B : Book) (i : ℕ) (r : Replica) (G : Good u V h B i r) (W : Works r) where
   pub prepare_good :
       (s : ℕ) (d : Verdict) → ((x : Record) → Said h x → Layout x) → Open B r s
       → (d ≡ NoOp → QuorumSaid u h (drop_by 0 r.view s))
@@ -118,7 +119,7 @@ module _ (u : Setup) (V : Service) (h : Set) (B : Book) (i : ℕ) (r : Replica) 
         mark = λ t p f. f;
         drops = λ v s' l n p. added_other h x (drop_by i v l) (λ k. omega arith);
         replies = λ v s' w a p. added_other h x (reply_by i v s' w a) (λ k. omega arith);
-        commits = λ v l p e. elim (added_cases h x (commit_by i v l 1) e) [ inl y ↦ absurd (omega (arith, view_of y, W.at_work)) | inr y ↦ y ];
+        commits = λ v l p e. elim (added_cases h x (commit_by i v l 1) e) [ inl y ↦ absurd (omega (arith, view_of y, W)) | inr y ↦ y ];
       } in
       speak_good u V h B i r (committed r s d) G x T
       (record { ahead = G.bounds.ahead; most = G.bounds.most; small = sealed_lt r.sealed s d G.bounds.small })

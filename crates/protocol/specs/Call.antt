@@ -1,13 +1,12 @@
 -- The calls of a bench after its open, and what each comes to.
---   Call               — a call with its arguments, in the order of docs/PROTOCOL.md; a certificate call names the bytes of the witness buffer it offers
---   asks_for c         — the statement that the call c asks for, each signer's number standing for the one in it, if c is a certificate call
---   Outcome            — what came of a call: granted, yes, no, or refused
---   acting_outcome a   — a grant or a refusal as an outcome
---   asking_outcome a b — the outcome of a certificate call with the grounds a, where b tells whether it is certified
---   Meaning            — what a call comes to: its outcome, what its own grounds answer, before the register is asked, the state after it, and the statement that it enters, if any
---   acting x a         — the meaning of a call that does what a says
---   asking x a b       — the meaning of a certificate call with the grounds a, where b tells whether it is certified; it changes nothing
---   meaning u V x c    — the meaning of the call c, on a bench u with the service V in the state x
+--   Call             — a call with its arguments, in the order of docs/PROTOCOL.md; a certificate call names the bytes of the witness buffer it offers
+--   asks_for c       — the statement that the call c asks for, each signer's number standing for the one in it, if c is a certificate call
+--   Outcome          — what came of a call: granted, yes, no, or refused
+--   if_granted a o   — the outcome o where a is a grant, else a's refusal
+--   Meaning          — what a call comes to: its outcome, what its own grounds answer, before the register is asked, the state after it, and the statement that it enters, if any
+--   acting x a       — the meaning of a call that does what a says
+--   asking x a b     — the meaning of a certificate call with the grounds a, where b tells whether it is certified; it changes nothing
+--   meaning u V x c  — the meaning of the call c, on a bench u with the service V in the state x
 use Rattle.std.specs.Prelude.{ℕ, Bool, cond, List, Some, None, Ok, Err, Option}
 use Rattle.refusal.specs.Grounds.{Answer}
 use Rattle.refusal.specs.declared.Refusal.{Refusal}
@@ -31,8 +30,9 @@ use Rattle.protocol.specs.Forge.{forge}
 use Rattle.protocol.specs.Lead.{lead}
 use Rattle.protocol.specs.Start.{start}
 use Rattle.protocol.specs.Enter.{enter}
-use Rattle.protocol.specs.Answer.{answer_grounds, answer_certified}
-use Rattle.protocol.specs.NoOp.{no_op_grounds, no_op_certified}
+use Rattle.protocol.specs.Grounds.{reached}
+use Rattle.protocol.specs.Answer.{answer_grounds}
+use Rattle.protocol.specs.NoOp.{no_op_grounds}
 
 pub data Call : Type 0 where
   Stamp : (operation : ℕ) → Call
@@ -63,13 +63,9 @@ pub data Outcome : Type 0 where
   No : Outcome
   Refused : Refusal → Outcome
 
-abbrev pub acting_outcome : Answer → Outcome
-acting_outcome (Ok _) = Granted
-acting_outcome (Err e) = Refused e
-
-abbrev pub asking_outcome : Answer → Bool → Outcome
-asking_outcome (Ok _) b = cond b Yes No
-asking_outcome (Err e) b = Refused e
+abbrev pub if_granted : Answer → Outcome → Outcome
+if_granted (Ok _) o = o
+if_granted (Err e) o = Refused e
 
 pub record Meaning : Type 0 where
   pub outcome : Outcome
@@ -79,10 +75,10 @@ pub record Meaning : Type 0 where
 
 abbrev pub acting : State → Action → Meaning
 acting x a =
-    record { outcome = acting_outcome (answer_to x a); own = a.grounds; after = state_after x a; enters = statement_of x a }
+    record { outcome = if_granted (answer_to x a) Granted; own = a.grounds; after = state_after x a; enters = statement_of x a }
 
 abbrev pub asking : State → Answer → Bool → Meaning
-asking x a b = record { outcome = asking_outcome a b; own = a; after = x; enters = None }
+asking x a b = record { outcome = if_granted a (cond b Yes No); own = a; after = x; enters = None }
 
 abbrev pub meaning : Setup → Service → State → Call → Meaning
 meaning u V x (Stamp op) = acting x (stamp x op)
@@ -99,5 +95,5 @@ meaning u V x (Forge r) = acting x (forge u x r)
 meaning u V x (Lead i ps n w) = acting x (lead u x i ps n w)
 meaning u V x (Start i ps n w) = acting x (start u x i ps n w)
 meaning u V x (Enter i n w v) = acting x (enter u x i n w v)
-meaning u V x (AskAnswer b v s w a) = asking x (answer_grounds x b v s w) (answer_certified u x v s w a)
-meaning u V x (AskNoOp b v s) = asking x (no_op_grounds x b v s) (no_op_certified u x v s)
+meaning u V x (AskAnswer b v s w a) = asking x (answer_grounds x b v s w) (reached u x (reply_by 0 v s w a))
+meaning u V x (AskNoOp b v s) = asking x (no_op_grounds x b v s) (reached u x (commit_by 0 v s 1))

@@ -1,4 +1,4 @@
--- The call commit: a replica at work says COMMIT of a verdict that a quorum prepared, on a slot that is open to votes. A no-op sets the slot's sealed bit.
+-- The call commit: a replica at work says COMMIT of a verdict that a quorum prepared, on a slot that is open to votes. A no-op is sealed.
 --   commit u x i s d  — the call for replica i, slot s and the verdict d, on a bench u in the state x
 use Rattle.std.specs.Prelude.{ℕ, Some, Ok}
 use Rattle.record.specs.Statements.{prepare_by, commit_by}

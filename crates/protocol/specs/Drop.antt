@@ -1,4 +1,4 @@
--- The call drop: a replica at work, whose leader said FIND for the slot at the end of its line, says DROP there.
+-- The call drop: a replica at work that has not got the operation after its line, for which its leader said FIND, says DROP.
 --   drop u x i  — the call for replica i, on a bench u in the state x
 use Rattle.std.specs.Prelude.{ℕ, Some, Ok}
 use Rattle.record.specs.Statements.{find_by, drop_by}

@@ -3,7 +3,7 @@
 --   if_foreign u i a        — there is a replica i, and it is foreign
 --   if_stamped x s a        — slot s is stamped
 --   if_view v a             — v is a view: at most 63
---   if_line n w a           — n and w are a line: a length of at most 64, and a word with no bit at or above it
+--   if_line n w a           — n is the length of a line, at most 64, and w its word, with bits below n only
 --   if_working r a          — the replica r is at work
 --   if_leaving r a          — the replica r is leaving
 --   if_leader u i v a       — replica i is the leader of view v

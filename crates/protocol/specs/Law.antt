@@ -1,15 +1,15 @@
--- The one-ledger law: where at most f of the 3f + 1 replicas are foreign, no slot is certified two ways, whoever picks the calls and their order.
--- A life is a granted open over an empty register and then any list of calls, granted or refused. After k of its calls:
---   Entered y k r               — a granted call of the life y entered the statement r
---   Signers y k r               — q different replicas below n are signers under which r was entered (the signer that stands in r does not count)
---   AnswerCertified y k v s w a — the answer a for slot s in view v, with the word w of the no-ops below the slot, is certified
---   NoOpCertified y k v s       — the no-op at slot s in view v is certified
---   SaysYes y k c               — the call c, put next, is answered yes
+-- The one-ledger law: however the calls of a life are picked and ordered, all that is certified in it agrees with one line, as long as no more than f of its 3f + 1 replicas are foreign.
+-- After k of the calls of a life y:
+--   Entered y k r                — a granted call of the life y entered the statement r
+--   Signers y k r                — q different replicas below n are signers under which r was entered (the signer that stands in r does not count)
+--   AnswerCertified y k v s w a  — the answer a for slot s in view v, with the word w of the no-ops below the slot, is certified
+--   NoOpCertified y k v s        — the no-op at slot s in view v is certified
+--   SaysYes y k c                — the call c, put next, is answered yes
 -- Of a line of 64 verdicts, as a number whose bit l is set where slot l is a no-op:
---   Agrees y line s w a         — the line has an operation at slot s and the no-ops w below it, and a is what the single service answers for the slot along the line
---   OneLedger y                 — the law for the life y
--- The single service is one service, freshly cleared, that takes the slots from 0 upward and is fed the operations stamped in the life; a no-op of the line and an unstamped slot leave it as it is. It answers for a stamped slot that is no no-op of the line, so a certified answer's slot is one.
-use Rattle.std.specs.Prelude.{◌≡◌, ℕ, ◌%◌, ◌^◌, ◌<◌, ◌≤◌, true, false, ◌≢◌, List, length, take, Some, AllPairs, slice_get}
+--   Agrees y line s w a          — the line has an operation at slot s and the no-ops w below it, and a is what the single service answers for the slot along the line
+--   OneLedger y                  — the law for the life y
+-- The single service is of the kind of the bench's service, and is cleared before slot 0. Along the line it is fed the operation of each slot that is stamped and that the line has as an operation, and answers for these slots alone. So the slot of a certified answer is one of them.
+use Rattle.std.specs.Prelude.{◌≡◌, ℕ, ◌%◌, ◌^◌, ◌<◌, ◌≤◌, true, false, ◌≢◌, ◌↔◌, List, length, take, Some, AllPairs, slice_get}
 use Rattle.std.specs.List.{AllByRecursion}
 use Rattle.record.specs.Statements.{reply_by, commit_by}
 use Rattle.record.specs.declared.Record.{Record}
@@ -67,10 +67,9 @@ pub record OneLedger (y : Life) : Type 0 where
       (j k l o : ℕ) → j ≤ k → k ≤ length y.calls → book (state_at y j).stamped l ≡ Some o
       → book (state_at y k).stamped l ≡ Some o
   -- exactly what is certified at a step is answered yes, put next with a buffer of 16 bytes
-  pub answer_yes : (k v s w a : ℕ) → k ≤ length y.calls → AnswerCertified y k v s w a → SaysYes y k (AskAnswer 16 v s w a)
-  pub yes_answer : (k v s w a : ℕ) → k ≤ length y.calls → SaysYes y k (AskAnswer 16 v s w a) → AnswerCertified y k v s w a
-  pub no_op_yes : (k v s : ℕ) → k ≤ length y.calls → NoOpCertified y k v s → SaysYes y k (AskNoOp 16 v s)
-  pub yes_no_op : (k v s : ℕ) → k ≤ length y.calls → SaysYes y k (AskNoOp 16 v s) → NoOpCertified y k v s
+  pub answer_yes :
+      (k v s w a : ℕ) → k ≤ length y.calls → AnswerCertified y k v s w a ↔ SaysYes y k (AskAnswer 16 v s w a)
+  pub no_op_yes : (k v s : ℕ) → k ≤ length y.calls → NoOpCertified y k v s ↔ SaysYes y k (AskNoOp 16 v s)
   -- so a caller who is answered yes in the life itself, with a buffer of b bytes, has what agrees with the line
   pub told_answer :
       (k b v s w a : ℕ) → slice_get y.calls k ≡ Some (AskAnswer b v s w a) → slice_get (outcomes_of y) k ≡ Some Yes

@@ -1,11 +1,11 @@
 -- Lives of a bench: a granted open, and then any list of the other calls with any arguments, granted or refused.
---   run u V x cs       — the state after the calls cs, from the state x
---   outcomes u V x cs  — what came of each of the calls cs, from the state x
+--   run u V x cs          — the state after the calls cs, from the state x
+--   outcomes u V x cs     — what came of each of the calls cs, from the state x
 --   EnteredBy u V x cs r  — one of the calls cs, made in turn from the state x, was granted and entered the statement r
---   additions u V x cs  — the statements that the calls cs, made in turn from the state x, added to the register, in order
---   Life               — a life: the bench, whose open was granted, its service, the free places of its register at the opening, and the calls
---   state_at y k       — the state of the life y after its open and k calls
---   outcomes_of y      — what came of the calls of the life y, one after the other
+--   additions u V x cs    — the statements that the calls cs, made in turn from the state x, added to the register, in order
+--   Life                  — a life: the bench, whose open was granted, its service, the free places of its register at the opening, and the calls
+--   state_at y k          — the state of the life y after its open and k calls
+--   outcomes_of y         — what came of the calls of the life y, one after the other
 use Rattle.std.specs.Prelude.{◌≡◌, ℕ, true, ◌⊎◌, List, [], ◌∷◌, ◌++◌, take, Some, Ok}
 use Rattle.record.specs.declared.Record.{Record}
 use Rattle.protocol.specs.Setup.{Setup}

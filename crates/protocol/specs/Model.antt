@@ -1,12 +1,12 @@
 -- A bench as the argument for safety sees it, without its storage, and how it moves.
---   Model        — the operations stamped, all that was said, and each replica by its number
---   stamps m     — the book of the operations stamped
---   placed f i r — the replicas f, with r for replica i
---   Move         — what a call does to a model: nothing, it stamps an operation, a foreign replica's statement is entered, replica i becomes r, or replica i becomes r and says x
---   apply m a    — the model m after the move a
---   InLayout a   — the statement that the move a enters, if any, keeps the layout
-use Rattle.std.specs.Prelude.{ℕ, cond, List, [], ◌∷◌, ◌++◌, ◌==◌}
-use Rattle.record.specs.Layout.{Layout}
+--   Model         — the operations stamped, all that was said, and each replica by its number
+--   stamps m      — the book of the operations stamped
+--   placed f i r  — the replicas f, with r for replica i
+--   Move          — what a call does to a model: nothing, it stamps an operation, a foreign replica's statement is entered, replica i becomes r, or replica i becomes r and says x
+--   apply m a     — the model m after the move a
+--   InLayout a    — the statement that the move a enters, if any, keeps the layout
+use Rattle.std.specs.Prelude.{◌≡◌, ℕ, cond, true, List, [], ◌∷◌, ◌++◌, ◌==◌}
+use Rattle.record.specs.Layout.{keeps_layout}
 use Rattle.record.specs.declared.Record.{Record}
 use Rattle.register.specs.Sets.{Set, added}
 use Rattle.replica.specs.declared.Replica.{Replica}
@@ -38,8 +38,6 @@ apply m (becomes i r) = record m { replica = placed m.replica i r }
 apply m (says i r x) = record m { held = added m.held x; replica = placed m.replica i r }
 
 abbrev pub InLayout : Move → Type 0
-InLayout rests = Unit {0}
-InLayout (stamping op) = Unit {0}
-InLayout (forges x) = Layout x
-InLayout (becomes i r) = Unit {0}
-InLayout (says i r x) = Layout x
+InLayout (forges x) = keeps_layout x ≡ true
+InLayout (says i r x) = keeps_layout x ≡ true
+InLayout a = Unit {0}

@@ -4,15 +4,12 @@
 --   is_stamped ops l   — whether slot l is stamped
 --   Known b l          — slot l has an operation in the book b
 --   Service            — a service, by what it answers to an operation after those that it was fed since it was cleared
---   listed o           — the operation o as a list, empty where there is none
---   fed b w s          — the operations that a service is fed from slot 0 up to slot s, itself not among them: a no-op of the word w and an unstamped slot leave it as it is
---   or_zero o          — the operation o, or 0 where there is none
+--   fed b w s          — the operations that a service is fed from slot 0 up to slot s, itself not among them: those of stamped slots that the word w has as operations
 --   operation_at b s   — the operation stamped at slot s, or 0 where there is none
 --   answer_at V b w s  — what a freshly cleared service answers to the operation of slot s, after it was fed those of fed b w s
---   if_some o a        — a where there is an operation o, else nothing
 --   single V b w s     — the single service's answer for slot s along the word w, if it has one: at a no-op and at an unstamped slot it has none
 -- book, fed, answer_at and single are shut: a proof that looks inside them says so.
-use Rattle.std.specs.Prelude.{◌≡◌, ℕ, zero, suc, Bool, cond, List, [], ◌∷◌, ◌++◌, length, Some, None, Option, nat_lt, slice_index}
+use Rattle.std.specs.Prelude.{◌≡◌, ℕ, zero, suc, Bool, cond, List, [], ◌++◌, length, Some, None, Option, option_map, option_to_list, unwrap_or, nat_lt, slice_index}
 use Rattle.replica.specs.Words.{bit}
 
 abbrev pub Book : Type 0
@@ -30,27 +27,15 @@ Known b l = (o : ℕ) × (b l ≡ Some o)
 abbrev pub Service : Type 0
 Service = List ℕ → ℕ → ℕ
 
-abbrev pub listed : Option ℕ → List ℕ
-listed (Some o) = o ∷ []
-listed None = []
-
 unfoldable pub fed : Book → ℕ → ℕ → List ℕ
 fed b w zero = []
-fed b w (suc l) = cond (bit w l) (fed b w l) (fed b w l ++ listed (b l))
-
-abbrev pub or_zero : Option ℕ → ℕ
-or_zero (Some o) = o
-or_zero None = 0
+fed b w (suc l) = cond (bit w l) (fed b w l) (fed b w l ++ option_to_list (b l))
 
 abbrev pub operation_at : Book → ℕ → ℕ
-operation_at b s = or_zero (b s)
+operation_at b s = unwrap_or (b s) 0
 
 unfoldable pub answer_at : Service → Book → ℕ → ℕ → ℕ
 answer_at V b w s = V (fed b w s) (operation_at b s)
 
-abbrev pub if_some : Option ℕ → ℕ → Option ℕ
-if_some (Some o) a = Some a
-if_some None a = None
-
 unfoldable pub single : Service → Book → ℕ → ℕ → Option ℕ
-single V b w s = cond (bit w s) None (if_some (b s) (answer_at V b w s))
+single V b w s = cond (bit w s) None (option_map (λ _. answer_at V b w s) (b s))

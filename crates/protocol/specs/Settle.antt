@@ -1,4 +1,4 @@
--- The call settle: a replica at work puts a verdict that a quorum committed into its line, at a slot that is open to votes. It appends it at its length, and sets it at a slot below. A no-op sets the slot's sealed bit. It says nothing.
+-- The call settle: a replica at work puts a verdict that a quorum committed into its line, at a slot that is open to votes: behind the line, or in the place of the verdict that stands there. A no-op is sealed. Nothing is said.
 --   settle u x i s d  — the call for replica i, slot s and the verdict d, on a bench u in the state x
 use Rattle.std.specs.Prelude.{ℕ, Ok}
 use Rattle.record.specs.Statements.{commit_by}

@@ -1,17 +1,12 @@
 -- Who the replicas of a bench are.
---   Setup             — how many foreign replicas a bench bears, and the mask that names the foreign ones
---   replicas u        — n, the number of replicas, 3f + 1; they are numbered from 0
---   quorum_size u     — q, how many replicas are a quorum, 2f + 1
---   members u         — both numbers
---   foreign u i       — whether replica i is foreign: it may say anything. The others are honest: they keep the rules
---   leader u v        — the leader of view v
---   change_to u k v   — a change to view v, where k slots are stamped
---   Many u p          — at least a quorum of the replicas pass the test p
---   QuorumSaid u h x  — a quorum of the replicas said the statement x, each under its own number (the signer in x does not count), where h is the set of all that was said
-use Rattle.std.specs.Prelude.{ℕ, ◌+◌, ◌*◌, ◌%◌, ◌≤◌, Bool}
-use Rattle.record.specs.declared.Record.{Record}
-use Rattle.register.specs.Sets.{Set}
-use Rattle.quorum.specs.Quorums.{count, said}
+--   Setup            — how many foreign replicas a bench bears, and the mask that names the foreign ones
+--   replicas u       — n, the number of replicas, 3f + 1; they are numbered from 0
+--   quorum_size u    — q, how many replicas are a quorum, 2f + 1
+--   members u        — both numbers
+--   foreign u i      — whether replica i is foreign: it may say anything. The others are honest: they keep the rules
+--   leader u v       — the leader of view v
+--   change_to u k v  — a change to view v, where k slots are stamped
+use Rattle.std.specs.Prelude.{ℕ, ◌+◌, ◌*◌, ◌%◌, Bool}
 use Rattle.quorum.specs.declared.Membership.{Membership}
 use Rattle.replica.specs.Words.{bit}
 use Rattle.merge.specs.declared.view_change.ViewChange.{ViewChange}
@@ -37,9 +32,3 @@ leader u v = v % replicas u
 
 abbrev pub change_to : Setup → ℕ → ℕ → ViewChange
 change_to u k v = record { members = members u; stamped = k; target = v }
-
-abbrev pub Many : Setup → (ℕ → Bool) → Type 0
-Many u p = quorum_size u ≤ count (replicas u) p
-
-abbrev pub QuorumSaid : Setup → Set → Record → Type 0
-QuorumSaid u h x = Many u (said h x)

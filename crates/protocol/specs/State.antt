@@ -15,7 +15,7 @@
 --   state_after x a      — the state after the call a: changed where it is granted, else as it was
 --   statement_of x a     — the statement that the call a enters, if it is granted and says one
 -- There is room for 16 replicas, as many as a bench can have.
-use Rattle.std.specs.Prelude.{ℕ, cond, List, [], ◌∷◌, replicate, is_ok, Some, None, Ok, Option, slice_index_or, slice_set}
+use Rattle.std.specs.Prelude.{ℕ, cond, List, [], replicate, is_ok, None, Ok, Option, option_map, unwrap_or, slice_index_or, slice_set}
 use Rattle.refusal.specs.Grounds.{Answer, and_then}
 use Rattle.record.specs.declared.Record.{Record}
 use Rattle.register.specs.Sets.{Set, nothing, addition, entering, held_after, free_after}
@@ -50,23 +50,19 @@ abbrev pub idle : State → Action
 idle x = record { grounds = Ok tt; says = None; stamped = x.stamped; replicas = x.replicas }
 
 abbrev pub register_answer : State → Option Record → Answer
-register_answer x None = Ok tt
-register_answer x (Some r) = entering x.held x.free r
+register_answer x o = unwrap_or (option_map (entering x.held x.free) o) (Ok tt)
 
 abbrev pub answer_to : State → Action → Answer
 answer_to x a = and_then a.grounds (register_answer x a.says)
 
 abbrev pub held_with : State → Option Record → Set
-held_with x None = x.held
-held_with x (Some r) = held_after x.held x.free r
+held_with x o = unwrap_or (option_map (held_after x.held x.free) o) x.held
 
 abbrev pub free_with : State → Option Record → ℕ
-free_with x None = x.free
-free_with x (Some r) = free_after x.held x.free r
+free_with x o = unwrap_or (option_map (free_after x.held x.free) o) x.free
 
 abbrev pub addition_to : State → Option Record → List Record
-addition_to x None = []
-addition_to x (Some r) = addition x.held x.free r
+addition_to x o = unwrap_or (option_map (addition x.held x.free) o) []
 
 abbrev pub granted : State → Action → State
 granted x a =

@@ -1,9 +1,11 @@
--- The fields of a curve are no wider than in its LOAD, so every answer has 64 bits. The law of the trait asks for the proof here.
-use Rattle.std.proofs.Common.{◌≡◌, ℕ, ◌+◌, ◌-◌, ◌*◌, ◌^◌, ◌<◌, ◌≤◌, Bool, true, false, cond, List, [], ◌∷◌, Option, Some, None, find, ◌==◌, ◌&&◌, nat_le, arith}
+-- The fields of a curve are no wider than in its LOAD, so every answer has 64 bits. The trait's law takes its proof from here.
+--   InBits c      — the offset and the slope of the curve c have the bits of a LOAD
+--   rating_short  — whatever operations the service was fed since it was cleared, it answers 64 bits; proved
+use Rattle.std.proofs.Common.{ℕ, ◌-◌, ◌*◌, ◌^◌, ◌<◌, Bool, true, false, cond, List, [], ◌∷◌, Option, Some, None, ◌==◌, ◌&&◌, nat_le, arith}
 use Rattle.std.specs.List.{AllByRecursion}
 use Rattle.std.proofs.lemmas.Nat.{mul-lt}
 use Rattle.service.specs.Operations.{after, field}
-use Rattle.rating.specs.Curves.{Curves, holds, flow, deciding, without, loaded}
+use Rattle.rating.specs.Curves.{Curves, holds, flow, deciding, without}
 use Rattle.rating.specs.Operations.{curve_of, stage_of, rating_operation}
 use Rattle.rating.specs.Rating.{curves_after, flow_by, curves_answer, rating_next, rating_answer}
 use Rattle.rating.specs.declared.curve.Curve.{Curve}
@@ -63,10 +65,10 @@ flow_by_short s [] h b = omega arith
 flow_by_short s (c ∷ cs) h b =
     kept_if (λ o. flow_by s o < 2 ^ 64) (holds c s) (Some c) (deciding s cs) (flow_short s c h b.0) (flow_by_short s cs h b.1)
 
-answer_short : (cs : Curves) (o : Option Operation) → Fits o → AllInBits cs → curves_answer cs o < 2 ^ 64
-answer_short cs (Some (Load c)) f b = omega arith
-answer_short cs (Some (Read s)) f b = flow_by_short s cs f b
-answer_short cs None f b = omega arith
+curves_answer_short : (cs : Curves) (o : Option Operation) → Fits o → AllInBits cs → curves_answer cs o < 2 ^ 64
+curves_answer_short cs (Some (Load c)) f b = omega arith
+curves_answer_short cs (Some (Read s)) f b = flow_by_short s cs f b
+curves_answer_short cs None f b = omega arith
 
 pub rating_short : (ops : List ℕ) (op : ℕ) → rating_answer (after rating_next [] ops) op < 2 ^ 64
-rating_short ops op = answer_short (after rating_next [] ops) (rating_operation op) (operation_fits op) (all_in_bits [] ops tt)
+rating_short ops op = curves_answer_short (after rating_next [] ops) (rating_operation op) (operation_fits op) (all_in_bits [] ops tt)

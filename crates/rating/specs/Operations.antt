@@ -1,7 +1,7 @@
 -- The operations of the rating service.
---   curve_of op  — the curve in the fields of a LOAD
---   stage_of op  — the stage in the field of a READ
---   rating_operation op   — the operation that the 64 bits op stand for, if any
+--   curve_of op          — the curve in the fields of a LOAD
+--   stage_of op          — the stage in the field of a READ
+--   rating_operation op  — the operation that the 64 bits op stand for, if any
 use Rattle.std.specs.Prelude.{ℕ, cond, ◌&&◌, Some, None, Option, ◌==◌, nat_le}
 use Rattle.service.specs.Operations.{field}
 use Rattle.rating.specs.declared.curve.Curve.{Curve}

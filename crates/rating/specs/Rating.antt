@@ -1,10 +1,10 @@
 -- What the rating service means. Its state is the list of its curves, the one loaded last first.
---   curves_of s     — the state that the service s is in
---   flow_by s c     — the answer to a READ at the stage s, where c is the curve that decides, if any
---   curves_after cs o    — the curves after the operation o
+--   curves_of s         — the state that the service s is in
+--   flow_by s c         — the answer to a READ at the stage s, where c is the curve that decides, if any
+--   curves_after cs o   — the curves after the operation o
 --   curves_answer cs o  — the answer to the operation o
---   rating_next     — the curves after 64 bits
---   rating_answer   — the answer to 64 bits
+--   rating_next         — the curves after 64 bits
+--   rating_answer       — the answer to 64 bits
 use Rattle.std.specs.Prelude.{ℕ, Some, None, Option}
 use Rattle.service.specs.Operations.{out_of_range, malformed}
 use Rattle.rating.specs.Curves.{Curves, flow, deciding, loaded}

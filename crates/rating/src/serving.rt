@@ -28,7 +28,7 @@ fn put_first(curves: &mut [Curve], curve: Curve) -> Option<Curve>
 }
 
 impl Rating {
-    /// A rating service without curves.
+    /// A rating service in which no curve is loaded.
     pub fn new() -> Rating
         ensures { curves_of result ≡ [] }
     {

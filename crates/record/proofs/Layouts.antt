@@ -1,8 +1,8 @@
 -- The test of the layout tells whether its rules hold.
-use Rattle.std.proofs.Common.{◌≡◌, ◌<◌, Bool, true, false, cond, ◌&&◌, eqb, ltb, leb, Decides, refl, arith, pow_pos}
-use Rattle.std.proofs.lemmas.Bool.{and_parts, ltb-true}
+use Rattle.std.proofs.Common.{◌≡◌, Bool, true, false, cond, ◌&&◌, eqb, leb, Decides, refl, arith, pow_pos}
+use Rattle.std.proofs.lemmas.Bool.{and_parts}
 use Rattle.std.proofs.lemmas.Bool.Decides.{nat_tests}
-use Rattle.record.specs.Layout.{Layout, keeps_layout, by_kind, reply_rule, gap_rule, verdict_rule, change_rule, line_rule}
+use Rattle.record.specs.Layout.{Layout, keeps_layout, shared_rule, by_kind, reply_rule, gap_rule, verdict_rule, change_rule, line_rule}
 use Rattle.record.specs.declared.Record.{Record}
 
 -- what follows from the rule of each kind follows from the rule of r's kind
@@ -14,7 +14,7 @@ split P false false false true b₅ x₁ x₂ x₃ x₄ x₅ p₁ p₂ p₃ p₄
 split P false false false false true x₁ x₂ x₃ x₄ x₅ p₁ p₂ p₃ p₄ p₅ h = p₅ refl h
 split P false false false false false x₁ x₂ x₃ x₄ x₅ p₁ p₂ p₃ p₄ p₅ h = grind arith
 
-module _ (r : Record) (signer : r.signer < 16) (view : r.view < 64) where
+module _ (r : Record) (shared : shared_rule r ≡ true) where
   from_reply : eqb r.kind 1 ≡ true → reply_rule r ≡ true → Layout r
   from_reply k a = grind (arith, nat_tests)
 
@@ -33,11 +33,8 @@ module _ (r : Record) (signer : r.signer < 16) (view : r.view < 64) where
 pub layout_from : (r : Record) → keeps_layout r ≡ true → Layout r
 unfolding keeps_layout
 layout_from r h =
-    let p = and_parts (ltb r.signer 16 && ltb r.view 64) (by_kind r) h in
-    let q = and_parts (ltb r.signer 16) (ltb r.view 64) p.0 in
-    let signer = ltb-true r.signer 16 q.0 in
-    let view = ltb-true r.view 64 q.1 in
-    split (Layout r) (eqb r.kind 1) (leb 2 r.kind && leb r.kind 3) (leb 4 r.kind && leb r.kind 6) (eqb r.kind 7) (leb 8 r.kind && leb r.kind 9) (reply_rule r) (gap_rule r) (verdict_rule r) (change_rule r) (line_rule r) (from_reply r signer view) (from_gap r signer view) (from_verdict r signer view) (from_change r signer view) (from_line r signer view) p.1
+    let p = and_parts (shared_rule r) (by_kind r) h in
+    split (Layout r) (eqb r.kind 1) (leb 2 r.kind && leb r.kind 3) (leb 4 r.kind && leb r.kind 6) (eqb r.kind 7) (leb 8 r.kind && leb r.kind 9) (reply_rule r) (gap_rule r) (verdict_rule r) (change_rule r) (line_rule r) (from_reply r p.0) (from_gap r p.0) (from_verdict r p.0) (from_change r p.0) (from_line r p.0) p.1
 
 pub layout_to : (r : Record) → Layout r → keeps_layout r ≡ true
 unfolding keeps_layout

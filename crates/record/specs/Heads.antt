@@ -1,6 +1,6 @@
 -- The first 32 bits of a record.
---   head_of r         — the fields of r before its word, as one number
---   with_head h w a   — the record whose first 32 bits are h, with the word w and the result a; h's lowest four bits are not looked at
+--   head_of r        — the fields of r before its word, as one number
+--   with_head h w a  — the record whose first 32 bits are h, with the word w and the result a; h's lowest four bits are not looked at
 use Rattle.std.specs.Prelude.{ℕ, ◌+◌, ◌*◌, ◌/◌, ◌%◌, ◌^◌}
 use Rattle.record.specs.declared.Record.{Record}
 

@@ -1,7 +1,7 @@
 -- Which records keep the layout.
 --   Layout r        — r keeps the layout, field by field
 --   keeps_layout r  — the same as a test; shut, so that what stands above need not look inside
---   passes r        — that test in the open: the ranges that all kinds share, then the rule of r's kind
+--   shared_rule r   — the rule that all kinds share: the ranges of signer and view; only VIEW-CHANGE has a last, only REPLY a result
 --   by_kind r       — the rule of r's kind
 --   reply_rule r    — the rule of REPLY
 --   gap_rule r      — the rule of FIND and DROP
@@ -9,7 +9,7 @@
 --   change_rule r   — the rule of VIEW-CHANGE
 --   line_rule r     — the rule of VIEW-START and ENTRY
 -- The kinds are 1 REPLY, 2 FIND, 3 DROP, 4 DECISION, 5 PREPARE, 6 COMMIT, 7 VIEW-CHANGE, 8 VIEW-START and 9 ENTRY.
-use Rattle.std.specs.Prelude.{◌≡◌, ◌^◌, ◌<◌, ◌≤◌, Bool, false, cond, ◌&&◌, ◌==◌, ◌≢◌, nat_le, nat_lt}
+use Rattle.std.specs.Prelude.{◌≡◌, ◌^◌, ◌<◌, ◌≤◌, Bool, false, cond, ◌&&◌, ◌||◌, ◌==◌, ◌≢◌, nat_le, nat_lt}
 use Rattle.record.specs.declared.Record.{Record}
 
 pub record Layout (r : Record) : Type 0 where
@@ -37,27 +37,19 @@ pub record Layout (r : Record) : Type 0 where
   pub no_result : (r.kind ≢ 1) → r.result ≡ 0
 
 abbrev pub reply_rule : Record → Bool
-reply_rule r =
-    nat_le r.slot 63 && nat_lt r.word (2 ^ r.slot) && r.last == 0 && r.verdict == 0 && nat_lt r.result (2 ^ 64)
+reply_rule r = nat_le r.slot 63 && nat_lt r.word (2 ^ r.slot) && r.verdict == 0 && nat_lt r.result (2 ^ 64)
 
 abbrev pub gap_rule : Record → Bool
-gap_rule r = nat_le r.slot 63 && r.word == 0 && r.last == 0 && r.verdict == 0 && r.result == 0
+gap_rule r = nat_le r.slot 63 && r.word == 0 && r.verdict == 0
 
 abbrev pub verdict_rule : Record → Bool
-verdict_rule r = nat_le r.slot 63 && r.word == 0 && r.last == 0 && nat_le r.verdict 1 && r.result == 0
+verdict_rule r = nat_le r.slot 63 && r.word == 0 && nat_le r.verdict 1
 
 abbrev pub change_rule : Record → Bool
-change_rule r =
-    nat_le r.slot 64 && nat_lt r.last r.view && nat_lt r.word (2 ^ r.slot) && r.verdict == 0 && r.result == 0
+change_rule r = nat_le r.slot 64 && nat_lt r.last r.view && nat_lt r.word (2 ^ r.slot) && r.verdict == 0
 
 abbrev pub line_rule : Record → Bool
-line_rule r =
-    nat_le r.slot 64
-    && nat_le 1 r.view
-    && nat_lt r.word (2 ^ r.slot)
-    && r.last == 0
-    && r.verdict == 0
-    && r.result == 0
+line_rule r = nat_le r.slot 64 && nat_le 1 r.view && nat_lt r.word (2 ^ r.slot) && r.verdict == 0
 
 abbrev pub by_kind : Record → Bool
 by_kind r =
@@ -67,8 +59,8 @@ by_kind r =
     (cond (r.kind == 7) (change_rule r)
     (cond (nat_le 8 r.kind && nat_le r.kind 9) (line_rule r) false))))
 
-abbrev pub passes : Record → Bool
-passes r = nat_lt r.signer 16 && nat_lt r.view 64 && by_kind r
+abbrev pub shared_rule : Record → Bool
+shared_rule r = nat_lt r.signer 16 && nat_lt r.view 64 && (r.kind == 7 || r.last == 0) && (r.kind == 1 || r.result == 0)
 
 unfoldable pub keeps_layout : Record → Bool
-keeps_layout r = passes r
+keeps_layout r = shared_rule r && by_kind r

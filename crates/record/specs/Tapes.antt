@@ -1,4 +1,4 @@
--- Tapes: one or more records end to end.
+-- Tapes: packed records with nothing between them, at least one.
 --   whole b    — b can be a tape: not empty, and a whole number of records
 --   places b   — how many records b has room for
 --   place i b  — the 20 bytes of the record at position i of b

@@ -1,5 +1,5 @@
 ghost use Rattle.std.specs.Prelude.{◌≡◌, ◌^◌, Decides, nat_lt};
-ghost use Rattle.record.specs.Layout.{Layout, keeps_layout, passes};
+ghost use Rattle.record.specs.Layout.{Layout, keeps_layout};
 
 use crate::{Kind, Record};
 
@@ -38,8 +38,9 @@ pub fn ends_below(word: u64, slot: u8) -> bool
 }
 
 // Whether `r` keeps the layout.
+#[tactic(auto, unfolding(crate::specs::Layout::keeps_layout))]
 fn passes(r: &Record) -> bool
-    ensures { result ≡ passes r.now }
+    ensures { result ≡ keeps_layout r.now }
 {
     let Record {
         kind,

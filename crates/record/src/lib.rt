@@ -29,13 +29,13 @@ pub struct Record {
     pub signer: u8,
     /// The view it is about; in a VIEW-CHANGE the target.
     pub view: u8,
-    /// In a VIEW-CHANGE: the view that the signer leaves.
+    /// In a VIEW-CHANGE the view that its signer is leaving.
     pub last: u8,
     /// The slot; in a VIEW-CHANGE the reach, in a VIEW-START or an ENTRY the length of a line.
     pub slot: u8,
     /// 0 for operation, 1 for no-op.
     pub verdict: u8,
-    /// Bit l, worth 2^l, is set where slot l is a no-op.
+    /// The no-ops that it tells of, one bit for each slot: that of slot l is worth 2^l.
     pub word: u64,
     /// In a REPLY: the answer.
     pub result: u64,

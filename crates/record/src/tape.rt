@@ -49,7 +49,8 @@ pub struct Reader<'a> {
 }
 
 impl<'a> Reader<'a> {
-    /// A reader at the start of the tape. A tape that is empty, or no whole number of records, is refused.
+    /// A reader at the start of the tape. A tape that is empty, or no whole number of records, is
+    /// refused.
     pub fn new(tape: &'a [u8]) -> Result<Reader<'a>, Refusal>
         ensures { Begins tape.now result }
     {

@@ -10,41 +10,43 @@ use std::fmt;
 /// A ground for refusing a call. A call tries its grounds in the order of their numbers.
 #[derive(Clone, Copy, Debug, PartialEq, Eq)]
 pub enum Ground {
-    /// A tape to be read is empty or no whole number of records, or a witness buffer is too short.
+    /// What is to be read as a tape is no whole number of records, one at least; or fewer than 16
+    /// bytes are offered for witnesses.
     BufferLength = 1,
-    /// A record breaks the layout.
+    /// A record, or what should be a packed one, does not keep the layout.
     Layout = 2,
-    /// f, the number of faults to bear, is outside 1 to 5.
+    /// f, how many foreign replicas a bench is to bear, is 0 or more than 5.
     FaultBound = 3,
     /// The foreign mask names a replica that there is not, or more than f replicas.
     ForeignMask = 4,
-    /// The register given to a new bench holds statements.
+    /// A statement is in the register that a bench is to be opened over.
     RegisterNotEmpty = 5,
-    /// There is no replica of this number.
+    /// There is no replica of this number: it is not below n.
     ReplicaNumber = 6,
-    /// The replica is foreign where it must be honest, or the reverse.
+    /// The call is for an honest replica and this one is foreign, or in forge the signer is honest.
     Honesty = 7,
-    /// A view, a length or a word is out of its range, or the slot is not stamped.
+    /// There is no such view or length, a word has a bit that it cannot have, or nothing is stamped
+    /// at the slot.
     ArgumentRange = 8,
-    /// The replica is leaving its view where it must be at work, or the reverse.
+    /// The call is for a replica at work and this one is leaving, or the other way round.
     Mode = 9,
-    /// The replica is not the leader that the call asks for.
+    /// The call is for the leader, and another replica leads.
     NotLeader = 10,
-    /// The slot, target or view is not one that the call's rule takes.
+    /// A slot, a target or a view is in range, but the call is not for it.
     SlotOrView = 11,
-    /// A DROP, a statement with the other verdict, or a mark bars the call.
+    /// What the replica did before bars the call: a DROP, the other verdict, or its ENTRY.
     Barred = 12,
-    /// The picks are not as many as a quorum, or one of them is no pick for this merge.
+    /// The picks are more or fewer than a quorum, or one of them is unfit.
     Picks = 13,
-    /// The base of a merge is not certified.
+    /// Nothing certifies the base of a merge.
     BaseNotCertified = 14,
-    /// Statements that the call needs are not in the register.
+    /// The register lacks what the call rests on.
     StatementsMissing = 15,
-    /// The leader's VIEW-START with this merge is not in the register.
+    /// The merge is not one for which the target's leader said VIEW-START.
     ViewStartMissing = 16,
-    /// Every slot is stamped.
+    /// No slot is left to stamp.
     SlotsExhausted = 17,
-    /// The register has no free place.
+    /// A new statement needs a place in the register, and none is free.
     RegisterFull = 18,
 }
 

@@ -4,7 +4,7 @@
 --   InsertGranted g old r new  — entering r was granted: r is a member now; every member stayed one, nothing else became one, and a place was used exactly if r was no member
 --   Inserted g old r a new     — a says whether r was new, where it is granted. Where it is refused, r was no member, and set and places are as they were
 --   Inserts g old r a new      — the same, and the memory is what entering makes of it
-use Rattle.std.specs.Prelude.{◌≡◌, ℕ, ◌+◌, Bool, true, false, cond, not, ◌⊎◌, Ok, Err, Result}
+use Rattle.std.specs.Prelude.{◌≡◌, ◌+◌, Bool, true, false, cond, not, ◌⊎◌, Ok, Err, Result}
 use Rattle.std.specs.List.{fold}
 use Rattle.refusal.specs.Grounds.{Answer}
 use Rattle.refusal.specs.declared.Refusal.{Refusal}

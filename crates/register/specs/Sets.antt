@@ -1,16 +1,16 @@
 -- What a register means, a set of statements and a number of free places, and what entering one does.
---   Set                   — a set of records, as a test
---   nothing               — the empty set
---   Emptiness s b         — b tells whether s is empty: it is true if s has no member, and false if it has one
---   added s r             — s with r in it
---   adds s n r            — entering r adds it: r keeps the layout, is no member, and of n free places there is one
---   entering s n r        — what entering r answers
---   held_after s n r      — the set afterwards
---   free_after s n r      — the number of free places afterwards
---   addition s n r        — r as a list, where entering r adds it, else the empty list
---   EnteredInto s n r a s' n' — r was entered: the answer was a, and set and number became s' and n'
-use Rattle.std.specs.Prelude.{◌≡◌, ℕ, ◌-◌, Bool, true, false, cond, not, ◌&&◌, ◌||◌, List, [], ◌∷◌, Ok, Err, Result, ◌==◌}
-use Rattle.refusal.specs.Grounds.{refused}
+--   Set                        — a set of records, as a test
+--   nothing                    — the empty set
+--   Emptiness s b              — b tells whether s is empty: it is true if s has no member, and false if it has one
+--   added s r                  — s with r in it
+--   adds s n r                 — entering r adds it: r keeps the layout, is no member, and of n free places there is one
+--   entering s n r             — what entering r answers
+--   held_after s n r           — the set afterwards
+--   free_after s n r           — the number of free places afterwards
+--   addition s n r             — r as a list, where entering r adds it, else the empty list
+--   EnteredInto s n r a s' n'  — r was entered: the answer was a, and set and number became s' and n'
+use Rattle.std.specs.Prelude.{◌≡◌, ℕ, ◌-◌, Bool, true, false, cond, not, ◌&&◌, ◌||◌, List, [], ◌∷◌, Ok, Result, ◌==◌}
+use Rattle.refusal.specs.Grounds.{unless}
 use Rattle.refusal.specs.declared.Ground.TheVariants.{Layout, RegisterFull}
 use Rattle.refusal.specs.declared.Refusal.{Refusal}
 use Rattle.record.specs.Layout.{keeps_layout}
@@ -35,10 +35,7 @@ adds s n r = keeps_layout r && not (s r) && not (n == 0)
 
 abbrev pub entering : Set → ℕ → Record → Result (Unit {0}) Refusal
 entering s n r =
-    cond (keeps_layout r)
-    (cond (s r) (Ok tt)
-    (cond (n == 0) (Err (refused RegisterFull 0)) (Ok tt)))
-    (Err (refused Layout 0))
+    unless (keeps_layout r) Layout 0 (unless (s r || not (n == 0)) RegisterFull 0 (Ok tt))
 
 abbrev pub held_after : Set → ℕ → Record → Set
 held_after s n r = cond (adds s n r) (added s r) s

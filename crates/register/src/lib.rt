@@ -1,5 +1,5 @@
-//! A register holds a set of statements and has a number of free places. This is what it means to
-//! be one; how statements are stored is each register's own.
+//! What it is to be a register: to have members, which are statements, and places that are free.
+//! How statements are stored is each register's own.
 #![tactic(auto)]
 
 ghost use Rattle.std.specs.Prelude.{◌≡◌, ℕ, Bool, true};

@@ -1,8 +1,8 @@
 -- Places that are records.
---   is_there x y     — the place y holds x
---   look_alike x y   — x and y agree in signer, slot and result
---   in_places n ys   — the statements in the first n of the places ys
---   room n ys        — how many of ys come after the first n
+--   is_there x y    — the place y holds x
+--   look_alike x y  — x and y agree in signer, slot and result
+--   in_places n ys  — the statements in the first n of the places ys
+--   room n ys       — how many of ys come after the first n
 use Rattle.std.specs.Prelude.{ℕ, ◌-◌, Bool, ◌&&◌, ◌==◌, List, length, take}
 use Rattle.record.specs.Same.{same}
 use Rattle.record.specs.declared.Record.{Record}

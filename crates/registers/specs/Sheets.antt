@@ -1,15 +1,15 @@
 -- The spare sheet: a register with places of its own, laid over another. Throughout, g tells what a register of the lower one's type holds, how many places are free, and what its memory is.
---   Sheet                    — the records in the used places of a sheet, in order
---   sheet_held t             — the statements in the used places of the sheet t
---   sheet_free t             — how many of the 16 places of t are not used
---   sheet_after t r          — t after r is entered: a new statement stands in its next place, all else is as it was
---   together s t             — the members of s and those of t
---   spare_held g s           — the statements that the register with a sheet s holds
---   spare_free g s           — how many free places s has
---   SheetMemory M            — the memory of a register with a sheet: the memory M below, the free places there, and the records of the sheet
---   spare_memory g s         — the memory of s
---   spare_stores g m r       — the memory m, with r: below while a place is free there, else in the sheet's next place
---   BelowFirst g old r new   — how r was entered into old, which is new now. What the sheet holds is not entered below; what the register below grants is not kept in the sheet
+--   Sheet                   — the records in the used places of a sheet, in order
+--   sheet_held t            — the statements in the used places of the sheet t
+--   sheet_free t            — how many of the 16 places of t are not used
+--   sheet_after t r         — t after r is entered: a new statement stands in its next place, all else is as it was
+--   together s t            — the members of s and those of t
+--   spare_held g s          — the statements that the register with a sheet s holds
+--   spare_free g s          — how many free places s has
+--   SheetMemory M           — the memory of a register with a sheet: the memory M below, the free places there, and the records of the sheet
+--   spare_memory g s        — the memory of s
+--   spare_stores g m r      — the memory m, with r: below while a place is free there, else in the sheet's next place
+--   BelowFirst g old r new  — how r was entered into old, which is new now. What the sheet holds is not entered below; what the register below grants is not kept in the sheet
 use Rattle.std.specs.Prelude.{◌≡◌, ℕ, ◌+◌, ◌-◌, cond, ◌||◌, List, [], ◌∷◌, ◌++◌, ◌==◌, is_ok}
 use Rattle.arrayvec.specs.ArrayVec.{ArrayVec, array_vec_len}
 use Rattle.record.specs.declared.Record.{Record}

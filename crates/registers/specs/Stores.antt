@@ -1,6 +1,6 @@
 -- Stores of records, of any type. Throughout, g tells which records a store has, how much room is left, and what appending does.
---   store_held g s           — the statements that the store s has
---   StoreEnters g old r a new — r was entered into the store old, which is new now, and the answer was a: where r is added it is appended, else the store is as it was
+--   store_held g s             — the statements that the store s has
+--   StoreEnters g old r a new  — r was entered into the store old, which is new now, and the answer was a: where r is added it is appended, else the store is as it was
 use Rattle.std.specs.Prelude.{◌≡◌, MatchBool}
 use Rattle.refusal.specs.Grounds.{Answer}
 use Rattle.record.specs.declared.Record.{Record}

@@ -81,17 +81,14 @@ impl<R: Register> Register for SpareSheet<R> {
 
     /// A new statement is entered below. The sheet takes it only if the register below refuses it.
     fn enter(&mut self, r: &Record) -> Result<(), Refusal>
-        ensures entered {
-            let held = spare_held R.Register in
+        ensures entered { let held = spare_held R.Register in
             let free = spare_free R.Register in
-            EnteredInto (held self.old) (free self.old) r.now result (held self.new) (free self.new)
-        }
-        ensures memory {
-            let held = spare_held R.Register self.old in
+            EnteredInto (held self.old) (free self.old) r.now result
+            (held self.new) (free self.new) }
+        ensures memory { let held = spare_held R.Register self.old in
             let added = addition held (spare_free R.Register self.old) r.now in
             spare_memory R.Register self.new
-            ≡ fold (spare_stores R.Register) (spare_memory R.Register self.old) added
-        }
+            ≡ fold (spare_stores R.Register) (spare_memory R.Register self.old) added }
         ensures order { BelowFirst R.Register self.old r.now self.new }
     {
         if holds(self.sheet.records(), r) {

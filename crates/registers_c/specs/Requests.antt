@@ -1,21 +1,21 @@
 -- Requests to a register, as C has them, and what comes of them. Throughout, s is the set of the register, and n the number of its free places.
---   entering_outcome a     — the outcome of entering a statement that was answered a
---   entering_value a       — its value: of a refusal the number of the ground
---   request_outcome s n t  — the outcome of the request t, where it does not look whether the register is empty
---   request_value s n t    — its value
---   TellsEmptiness s o v   — o and v are the outcome and the value of a request that looks whether the register is empty
---   TellsOther s n t o v   — o and v are those of the request t, where it does not
---   Came s n t o v         — the request t came to the outcome o and the value v
---   held_then s n t        — the set after the request t
---   free_then s n t        — the number of free places after it
---   addition_here s n t    — the statement that the request t adds, if it adds one
---   additions_of s n ts    — the statements that the requests ts, made in turn, add, in order
---   with_outcome t o v     — the request t with the outcome o and the value v
---   Served s n t t'        — the request t was made, and is t' with what came of it
---   Uses s n ts us s' n'   — the requests ts were made in turn, and are us with what came of them; s' and n' are the set and the number of free places then
---   UsesEmpty n ts us      — the same, from an empty register with n free places
---   Serves g old t r new   — the request t was made of the register old, which is new now, and r is its outcome and its value; g tells of a register of this type
---   ServesAll g old ts us new — likewise the requests ts, in turn, which are us with what came of them
+--   entering_outcome a         — the outcome of entering a statement that was answered a
+--   entering_value a           — its value: of a refusal the number of the ground
+--   request_outcome s n t      — the outcome of the request t, where it does not look whether the register is empty
+--   request_value s n t        — its value
+--   TellsEmptiness s o v       — o and v are the outcome and the value of a request that looks whether the register is empty
+--   TellsOther s n t o v       — o and v are those of the request t, where it does not
+--   Came s n t o v             — the request t came to the outcome o and the value v
+--   held_then s n t            — the set after the request t
+--   free_then s n t            — the number of free places after it
+--   addition_here s n t        — the statement that the request t adds, if it adds one
+--   additions_of s n ts        — the statements that the requests ts, made in turn, add, in order
+--   with_outcome t o v         — the request t with the outcome o and the value v
+--   Served s n t t'            — the request t was made, and is t' with what came of it
+--   Uses s n ts us s' n'       — the requests ts were made in turn, and are us with what came of them; s' and n' are the set and the number of free places then
+--   UsesEmpty n ts us          — the same, from an empty register with n free places
+--   Serves g old t r new       — the request t was made of the register old, which is new now, and r is its outcome and its value; g tells of a register of this type
+--   ServesAll g old ts us new  — likewise the requests ts, in turn, which are us with what came of them
 use Rattle.std.specs.Prelude.{◌≡◌, ℕ, Bool, cond, MatchBool, List, [], ◌∷◌, ◌++◌, Ok, Err, ◌==◌}
 use Rattle.std.specs.List.{fold}
 use Rattle.refusal.specs.Grounds.{Answer, ground_number}

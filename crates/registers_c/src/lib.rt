@@ -16,8 +16,8 @@ use crate::over::{use_sheets, use_table, use_tape};
 use record::Record;
 pub use request::Request;
 
-/// Makes the requests to an empty register over the tape. The statements that they add stand packed at
-/// its start, in order; the other bytes are as they were.
+/// Makes the requests to an empty register over the tape. The statements that they add stand packed
+/// at its start, in order; the other bytes are as they were.
 #[unsafe(no_mangle)]
 pub extern "C" fn fotsgari_use_tape(tape: &mut [u8], requests: &mut [Request])
     ensures requests { UsesEmpty (places tape.old) requests.old requests.new }
@@ -27,8 +27,8 @@ pub extern "C" fn fotsgari_use_tape(tape: &mut [u8], requests: &mut [Request])
     use_tape(tape, requests);
 }
 
-/// Makes the requests to an empty register over the table. The statements that they add stand in its
-/// first places, in order; the others are as they were.
+/// Makes the requests to an empty register over the table. The statements that they add stand in
+/// its first places, in order; the others are as they were.
 #[unsafe(no_mangle)]
 pub extern "C" fn fotsgari_use_table(table: &mut [Record], requests: &mut [Request])
     ensures requests { UsesEmpty (length table.old) requests.old requests.new }

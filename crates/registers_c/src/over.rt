@@ -11,8 +11,8 @@ use record::Record;
 use registers::{SpareSheet, Table};
 use tape::Tape;
 
-// Makes the requests to an empty register over the tape. The statements that they add stand packed at
-// its start, in order; the other bytes are as they were.
+// Makes the requests to an empty register over the tape. The statements that they add stand packed
+// at its start, in order; the other bytes are as they were.
 pub(crate) fn use_tape(tape: &mut [u8], requests: &mut [Request])
     ensures requests { UsesEmpty (places tape.old) requests.old requests.new }
     ensures tape { let added = additions_of nothing (places tape.old) requests.old in

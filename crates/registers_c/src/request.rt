@@ -24,14 +24,14 @@ pub struct Request {
 }
 
 // The outcome of a question.
-fn answered(yes: bool) -> (u8, u8)
+fn outcome_of_ask(yes: bool) -> (u8, u8)
     ensures { result ≡ (cond yes 2 3, 0) }
 {
     (if yes { 2 } else { 3 }, 0)
 }
 
 // The outcome of entering.
-fn entered(answer: Result<(), Refusal>) -> (u8, u8)
+fn outcome_of_enter(answer: Result<(), Refusal>) -> (u8, u8)
     ensures { result ≡ (entering_outcome answer, entering_value answer) }
 {
     match answer {
@@ -45,9 +45,9 @@ fn make<R: Register>(register: &mut R, request: &Request) -> (u8, u8)
     ensures { Serves R.Register register.old request.now result register.new }
 {
     match request.number {
-        1 => answered(register.ask(&request.statement)),
-        2 => answered(register.is_empty()),
-        3 => entered(register.enter(&request.statement)),
+        1 => outcome_of_ask(register.ask(&request.statement)),
+        2 => outcome_of_ask(register.is_empty()),
+        3 => outcome_of_enter(register.enter(&request.statement)),
         4 => (5, count(register, &request.statement, request.replicas)),
         _ => (0, 0),
     }

@@ -10,7 +10,7 @@ use Rattle.std.proofs.lemmas.Bool.Decides.{nat_tests}
 use Rattle.replica.specs.declared.Verdict.{Verdict}
 use Rattle.replica.specs.declared.Verdict.TheVariants.{Operation, NoOp}
 use Rattle.replica.specs.Words.{bit, with_bit, without_bit, one_past}
-use Rattle.replica.specs.Verdicts.{is_no_op, sealed_with, with_verdict}
+use Rattle.replica.specs.Verdicts.{sealed_with, with_verdict}
 
 -- ---- bits one by one, the lowest first
 
@@ -212,6 +212,11 @@ unfolding without_bit
 without_above w s h p = let none = and_above s w (lt_of_lt_of_le h (pow_mono p)) in omega arith
 
 -- ---- verdicts put into a word
+
+-- whether d is no-op
+abbrev pub is_no_op : Verdict → Bool
+is_no_op Operation = false
+is_no_op NoOp = true
 
 pub verdict_same : (w s : ℕ) (d : Verdict) → s < 64 → bit (with_verdict w s d) s ≡ is_no_op d
 verdict_same w s Operation h = ap (λ (x : ℕ). bit x s) (without_put w s) ∙ put_same s w 0 (omega arith)

@@ -1,13 +1,13 @@
 -- A replica, and what each call makes of it.
---   initial           — a replica as a bench opens with it: every number is 0, and the mark is clear
---   reach r           — the greater of r's length and one past its highest sealed bit
---   longer n          — the length of a line of length n after one more verdict; a line of 64 is full, and stays
---   delivered r       — r with an operation appended to its line
---   committed r s d   — r after it said COMMIT of the verdict d on slot s: a no-op sets the slot's sealed bit
---   settled r s d     — r with the verdict d on slot s of its line, appended if s is the length; a no-op sets the slot's sealed bit
---   left r t          — r on its way to the view t, with the mark cleared
---   started r         — r with the mark set: it said ENTRY for its target
---   entered v n w     — a replica that entered the view v with the line of length n and word w
+--   initial          — a replica as a bench opens with it: every number is 0, and the mark is clear
+--   reach r          — the greater of r's length and one past its highest sealed bit
+--   longer n         — the length of a line of length n after one more verdict; a line of 64 is full, and stays
+--   delivered r      — r with an operation appended to its line
+--   committed r s d  — r after it said COMMIT of the verdict d on slot s: a no-op sets the slot's sealed bit
+--   settled r s d    — r with the verdict d on slot s of its line, appended if s is the length; a no-op sets the slot's sealed bit
+--   left r t         — r on its way to the view t, with the mark cleared
+--   started r        — r with the mark set: it said ENTRY for its target
+--   entered v n w    — a replica that entered the view v with the line of length n and word w
 use Rattle.std.specs.Prelude.{ℕ, ◌+◌, max, true, false, cond, ◌==◌, nat_lt}
 use Rattle.replica.specs.declared.Replica.{Replica}
 use Rattle.replica.specs.declared.Verdict.{Verdict}

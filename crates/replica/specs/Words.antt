@@ -1,4 +1,4 @@
--- Words: 64-bit numbers read by their bits. Bit l, worth 2^l, is set where slot l is a no-op.
+-- Words: numbers of 64 bits that tell of every slot whether it is a no-op, slot l by the bit worth 2^l.
 --   bit w l          — whether bit l of the word w is set
 --   with_bit w l     — w with bit l set; there are 64 bits, so for another l w as it is
 --   without_bit w l  — w with bit l cleared

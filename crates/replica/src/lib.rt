@@ -43,7 +43,7 @@ pub enum Activity {
 }
 
 /// What an honest replica holds. Every number is 0 when a bench opens.
-// A bench has its replicas as an array of plain structs. So the mark stands beside the target.
+// The mark is a field beside the target, though only a leaving replica has a use for it.
 #[derive(Clone, Copy, Default, PartialEq, Eq, Debug)]
 pub struct Replica {
     /// The view that it entered last.
@@ -54,7 +54,7 @@ pub struct Replica {
     pub base: u8,
     /// The length of its line.
     pub length: u8,
-    /// The word of its line: bit l is set where slot l is a no-op.
+    /// The word of its line: which slots of it are no-ops.
     pub word: u64,
     /// The sealed word: the no-ops that it committed or settled in its view.
     pub sealed: u64,

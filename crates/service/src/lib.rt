@@ -8,7 +8,7 @@ mod answer;
 
 pub use answer::{MALFORMED, OUT_OF_RANGE, Unanswered, Unencodable, UnknownOperation, figure};
 
-/// A service. Its meaning is a state: an operation and the state fix the answer and the next state.
+/// A service: it has a state, from which, with an operation, follow the answer and the next state.
 pub trait Service {
     // The states that services of this type can be in.
     ghost State: { Type 0 };
@@ -37,5 +37,6 @@ pub trait Service {
         ensures same_kind { fresh (state self.new) ≡ fresh (state self.old) };
 
     // Whatever operations it was fed since it was cleared, it answers 64 bits.
-    ghost answers_64_bits: { (s : State) (ops : List ℕ) (op : ℕ) → answer (after next (fresh s) ops) op < 2 ^ 64 };
+    ghost answers_64_bits: { (s : State) (ops : List ℕ) (op : ℕ) →
+        answer (after next (fresh s) ops) op < 2 ^ 64 };
 }

@@ -45,8 +45,8 @@ pub used_chunks : (u : ℕ) (b : List ℕ) (ps : List (List ℕ)) → u ≤ plac
 used_chunks u b ps fits are =
     ap (take u) (are ∙ chunks_are b (places b)) ∙ take-map-range_with_len (λ k. place k b) 0 (places b) u fits ∙ used_is u b fits
 
-pub put_replaces : (n : ℕ) (b y c : List ℕ) → y ≡ c → put_mid (20 * n) (20 * n + 20 - 20 * n) b y ≡ replaced n b c
-put_replaces n b y c e =
+pub write_replaces : (n : ℕ) (b y c : List ℕ) → y ≡ c → put_mid (20 * n) (20 * n + 20 - 20 * n) b y ≡ replaced n b c
+write_replaces n b y c e =
     let k : 20 * n + 20 - 20 * n ≡ 20 = omega arith in
     rw (e, k, drop-drop)
 

@@ -1,16 +1,16 @@
 -- A tape: lent bytes, packed records end to end, the first of which are used.
---   has_bytes x y         — the place y, 20 bytes, holds x
---   parts n b             — the first n places of the bytes b
---   used_parts n b        — those of them that b has room for
---   on_tape n b           — the statements in the first n places
---   room_on n b           — how many places b has after the first n
---   replaced n b c        — b with the bytes c at the place n
---   tape_held t           — the statements in the used places of the tape t
---   tape_free t           — how many places of t are not used
---   TapeMemory            — which memory is lent, the bytes in it, and how many places of it are used
---   tape_memory t         — the memory of t
---   tape_stores m r       — the memory m, with r packed at the lowest free place
---   with_packed rs b      — b with the statements rs packed at its start, end to end
+--   has_bytes x y     — the place y, 20 bytes, holds x
+--   parts n b         — the first n places of the bytes b
+--   used_parts n b    — those of them that b has room for
+--   on_tape n b       — the statements in the first n places
+--   room_on n b       — how many places b has after the first n
+--   replaced n b c    — b with the bytes c at the place n
+--   tape_held t       — the statements in the used places of the tape t
+--   tape_free t       — how many places of t are not used
+--   TapeMemory        — which memory is lent, the bytes in it, and how many places of it are used
+--   tape_memory t     — the memory of t
+--   tape_stores m r   — the memory m, with r packed at the lowest free place
+--   with_packed rs b  — b with the statements rs packed at its start, end to end
 use Rattle.std.specs.Prelude.{ℕ, ◌+◌, ◌-◌, ◌*◌, min, Bool, List, ◌++◌, length, map, take, drop}
 use Rattle.std.specs.Borrow.{GName}
 use Rattle.std.specs.List.{flat_map, range_with_len}

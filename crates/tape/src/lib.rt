@@ -7,7 +7,7 @@ ghost use Rattle.register.specs.Sets.{nothing};
 
 mod parts;
 
-use crate::parts::{has, holds_nothing, put};
+use crate::parts::{has, holds_nothing, write_part};
 use record::{Record, SIZE};
 use refusal::{Ground, Refusal};
 use register::Register;
@@ -16,8 +16,8 @@ use register::Register;
 /// statement goes to the lowest free place, and nothing else of the caller's memory changes.
 #[derive(Drop)]
 pub struct Tape<'a> {
-    // A type of its own beside a table: one of both would have to carry how a place is read and written.
-    // What the caller lends is written in place, so its length stands beside it.
+    // A type of its own beside a table: one of both would have to carry how a place is read and
+    // written. What the caller lends is written in place, so its length stands beside it.
     bytes: &'a mut [u8],
     // How many records are packed into it.
     used: usize,
@@ -81,7 +81,7 @@ impl<'a> Register for Tape<'a> {
         if self.used == self.bytes.len() / SIZE {
             return Err(Ground::RegisterFull.into());
         }
-        put(self.bytes, self.used, &part);
+        write_part(self.bytes, self.used, &part);
         self.used += 1;
         Ok(())
     }

@@ -25,8 +25,8 @@ pub(crate) fn holds_nothing(parts: &[[u8; SIZE]]) -> bool
 }
 
 // Writes the part to the place.
-#[tactic(auto, using(crate::proofs::Places::put_replaces))]
-pub(crate) fn put(bytes: &mut [u8], place: usize, part: &[u8; SIZE])
+#[tactic(auto, using(crate::proofs::Places::write_replaces))]
+pub(crate) fn write_part(bytes: &mut [u8], place: usize, part: &[u8; SIZE])
     requires { place < places bytes.old }
     ensures { bytes.new ≡ replaced place bytes.old part.now }
 {

@@ -1,5 +1,4 @@
 use Rattle.std.proofs.Common.{rules, ◌<◌, length, None}
-use Rattle.life.specs.Calls.{calls_of}
 use Rattle.life.specs.declared.call.Call.TheVariants.{Stamp}
 use Rattle.life.specs.declared.call.Turn.{Turn}
 use Rattle.life.proofs.Running.{underway_further}

@@ -8,7 +8,7 @@ pub loop-pick-preserved : goal.loop-pick-preserved
 loop-pick-preserved c =
     let at = c.loop-pick in
     elim c.if-pick-top.branch [
-      | then-pick-top w ↦ line_more _ _ _ _ _ at.invariant _ _ c.loop-pick-test.true w.if-pick-top.true (w.line-is ∙ w.joined-line.ensures)
+      | then-pick-top w ↦ line_more _ _ _ _ _ at.invariant _ _ c.loop-pick-test.true w.if-pick-top.true (w.line-is ∙ w.with_pick-line.ensures)
       | else-pick-top w ↦ line_past _ _ _ _ _ at.invariant _ _ c.loop-pick-test.true w.if-pick-top.false w.line-is
     ]
 

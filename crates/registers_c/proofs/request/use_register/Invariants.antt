@@ -1,4 +1,3 @@
-use Rattle.std.proofs.Common.{take}
 use Rattle.registers_c.proofs.Making.{Underway}
 use Rattle.registers_c.proofs.request.use_register.Given as goal
 

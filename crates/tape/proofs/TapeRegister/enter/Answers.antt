@@ -13,7 +13,7 @@ returns c =
     let kept : keeps_layout r ≡ true = search rules in
     let absent : tape_held t r ≡ false = search rules in
     let room : t.used < places t.bytes.now = search rules in
-    let written : c.put.new.bytes ≡ replaced t.used t.bytes.now (packed r) = search rules in
+    let written : c.write_part.new.bytes ≡ replaced t.used t.bytes.now (packed r) = search rules in
     record {
       entered = put_enters t.used t.bytes.now r room kept absent _ written;
       memory = put_is_stored t.used t.bytes.now r room kept absent _ written t.bytes.ghost_name;
