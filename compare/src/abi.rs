@@ -14,7 +14,7 @@ pub struct Call {
 }
 
 #[repr(C)]
-#[derive(Clone, Copy, Debug, Default, PartialEq, Eq)]
+#[derive(Clone, Copy, Debug, Default, PartialEq, Eq, Hash)]
 pub struct Record {
     pub kind: u8,
     pub signer: u8,

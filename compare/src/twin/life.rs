@@ -3,6 +3,8 @@
 use super::Refusal;
 use super::bench::{Bench, Replica};
 use super::calls::{Call, read};
+use super::hash_set::Hashed;
+use super::record::PLACE;
 use super::register::{Register, Search, Tape};
 use super::service::{Allotment, Rating, Service};
 use crate::abi::{self, GRANTED, Given, Kind, NO, Outcome, REFUSED, SLOTS, Status, Written, YES};
@@ -66,14 +68,19 @@ pub fn status_of<R, S>(bench: &Bench<R, S>) -> Status {
     Status { stamped: bench.operations.len() as u64, operations, replicas }
 }
 
-fn run<S: Service, F: Search>(given: Given, written: Written) -> Result<(), u8> {
-    let Written { tape, outcomes, status } = written;
+/// Runs a life with a service over a register.
+fn run<S: Service>(
+    given: Given,
+    register: impl Register,
+    outcomes: &mut [Outcome],
+    status: &mut Status,
+) -> Result<(), u8> {
     if outcomes.len() != given.calls.len() {
         return Err(BAD_OUTCOMES);
     }
     let calls: Vec<Call> =
         given.calls.iter().map(|call| read(call, given.records)).collect::<Result<_, _>>()?;
-    let bench = Bench::open(given.f, given.foreign, Tape::<F>::new(tape), S::default());
+    let bench = Bench::open(given.f, given.foreign, register, S::default());
     let mut bench = bench.map_err(|refusal| refusal.ground)?;
     for (outcome, call) in outcomes.iter_mut().zip(&calls) {
         *outcome = make(&mut bench, call);
@@ -82,11 +89,27 @@ fn run<S: Service, F: Search>(given: Given, written: Written) -> Result<(), u8> 
     Ok(())
 }
 
-/// Runs a life as the library does.
-pub fn run_life<F: Search>(given: Given, written: Written) -> u8 {
+fn run_over(
+    given: Given,
+    register: impl Register,
+    outcomes: &mut [Outcome],
+    status: &mut Status,
+) -> u8 {
     let ran = match given.kind {
-        Kind::Rating => run::<Rating, F>(given, written),
-        Kind::Allotment => run::<Allotment, F>(given, written),
+        Kind::Rating => run::<Rating>(given, register, outcomes, status),
+        Kind::Allotment => run::<Allotment>(given, register, outcomes, status),
     };
     ran.err().unwrap_or(0)
+}
+
+/// Runs a life as the library does.
+pub fn run_life<F: Search>(given: Given, written: Written) -> u8 {
+    let Written { tape, outcomes, status } = written;
+    run_over(given, Tape::<F>::new(tape), outcomes, status)
+}
+
+/// Runs a life over a hash set, which has as many places as the tape. The tape stays as it is.
+pub fn run_life_in_hash_set(given: Given, written: Written) -> u8 {
+    let Written { tape, outcomes, status } = written;
+    run_over(given, Hashed::new(tape.len() / PLACE), outcomes, status)
 }

@@ -3,6 +3,7 @@
 pub mod bench;
 pub mod calls;
 pub mod certificates;
+pub mod hash_set;
 pub mod life;
 pub mod picks;
 pub mod record;

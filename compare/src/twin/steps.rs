@@ -1,5 +1,6 @@
 //! Steps on registers as C hands them over, from include/fotsgari_registers.h.
 
+use super::hash_set::Hashed;
 use super::register::{ByAny, Register, Search, SpareSheet, Table, Tape};
 use crate::abi::{Record, Step};
 
@@ -46,6 +47,11 @@ pub fn use_tape<F: Search>(tape: &mut [u8], steps: &mut [Step]) {
 
 pub fn use_table<F: Search>(table: &mut [Record], steps: &mut [Step]) {
     take_all(&mut Table::<F>::new(table), steps);
+}
+
+/// On a hash set, which has this many places.
+pub fn use_hash_set(places: usize, steps: &mut [Step]) {
+    take_all(&mut Hashed::new(places), steps);
 }
 
 /// On two sheets, one over the other, and no place below.
