@@ -14,25 +14,25 @@
 extern "C" {
 #endif
 
-/* The numbers of the steps. */
-enum fotsgari_step_number {
-    FOTSGARI_STEP_ASK = 1,      /* whether the register holds the statement */
-    FOTSGARI_STEP_IS_EMPTY = 2, /* whether it holds none */
-    FOTSGARI_STEP_ENTER = 3,    /* enters the statement */
-    FOTSGARI_STEP_COUNT = 4     /* how many replicas said the statement, each under its own number */
+/* The numbers of the requests. */
+enum fotsgari_request_number {
+    FOTSGARI_REQUEST_ASK = 1,      /* whether the register holds the statement */
+    FOTSGARI_REQUEST_IS_EMPTY = 2, /* whether it holds none */
+    FOTSGARI_REQUEST_ENTER = 3,    /* enters the statement */
+    FOTSGARI_REQUEST_COUNT = 4     /* how many replicas said it, each under its own number */
 };
 
-enum fotsgari_step_outcome {
-    FOTSGARI_NO_STEP = 0, /* no step has the number: nothing is done */
-    FOTSGARI_STEP_GRANTED = 1,
-    FOTSGARI_STEP_YES = 2,
-    FOTSGARI_STEP_NO = 3,
-    FOTSGARI_STEP_REFUSED = 4,
-    FOTSGARI_STEP_COUNTED = 5
+enum fotsgari_request_outcome {
+    FOTSGARI_NO_REQUEST = 0, /* no request has the number: nothing is done */
+    FOTSGARI_REQUEST_GRANTED = 1,
+    FOTSGARI_REQUEST_YES = 2,
+    FOTSGARI_REQUEST_NO = 3,
+    FOTSGARI_REQUEST_REFUSED = 4,
+    FOTSGARI_REQUEST_COUNTED = 5
 };
 
-/* A step on a register, and what came of it. */
-struct fotsgari_step {
+/* A request to a register, and what came of it. */
+struct fotsgari_request {
     struct fotsgari_record statement;
     uint8_t number;   /* any number is allowed */
     uint8_t replicas; /* count: how many replicas there are, numbered from 0; any number is allowed */
@@ -40,20 +40,22 @@ struct fotsgari_step {
     uint8_t value;    /* written: refused, the number of the ground; counted, how many; else 0 */
 };
 
-/* Each makes the steps in their turn on a register that is empty at first. A step's statement, number
- * and replicas stay as they are. */
+/* Each makes the requests in their turn to a register that is empty at first. A request's statement,
+ * number and replicas stay as they are. */
 
-/* Over the tape, with a place for each whole 20 bytes, whatever it holds. The statements that the steps
- * add stand packed at its start then, in order; the other bytes are as they were. */
-void fotsgari_use_tape(uint8_t *tape, size_t tape_length, struct fotsgari_step *steps, size_t steps_length);
+/* Over the tape, with a place for each whole 20 bytes, whatever it holds. The statements that the
+ * requests add stand packed at its start then, in order; the other bytes are as they were. */
+void fotsgari_use_tape(
+    uint8_t *tape, size_t tape_length, struct fotsgari_request *requests, size_t requests_length);
 
-/* Over the table, with a place for each record, whatever it holds. The statements that the steps add
- * stand in its first places then, in order; the other records are as they were. */
+/* Over the table, with a place for each record, whatever it holds. The statements that the requests
+ * add stand in its first places then, in order; the other records are as they were. */
 void fotsgari_use_table(
-    struct fotsgari_record *table, size_t table_length, struct fotsgari_step *steps, size_t steps_length);
+    struct fotsgari_record *table, size_t table_length, struct fotsgari_request *requests,
+    size_t requests_length);
 
 /* A register with 32 places of its own: two spare sheets, one laid over the other. */
-void fotsgari_use_sheets(struct fotsgari_step *steps, size_t steps_length);
+void fotsgari_use_sheets(struct fotsgari_request *requests, size_t requests_length);
 
 #ifdef __cplusplus
 }

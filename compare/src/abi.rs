@@ -57,7 +57,7 @@ pub struct Status {
 
 #[repr(C)]
 #[derive(Clone, Copy, Debug, Default, PartialEq, Eq)]
-pub struct Step {
+pub struct Request {
     pub statement: Record,
     pub number: u8,
     pub replicas: u8,
@@ -121,11 +121,21 @@ unsafe extern "C" {
         status: *mut Status,
     ) -> u8;
 
-    fn fotsgari_use_tape(tape: *mut u8, length: usize, steps: *mut Step, steps_length: usize);
+    fn fotsgari_use_tape(
+        tape: *mut u8,
+        length: usize,
+        requests: *mut Request,
+        requests_length: usize,
+    );
 
-    fn fotsgari_use_table(table: *mut Record, length: usize, steps: *mut Step, steps_length: usize);
+    fn fotsgari_use_table(
+        table: *mut Record,
+        length: usize,
+        requests: *mut Request,
+        requests_length: usize,
+    );
 
-    fn fotsgari_use_sheets(steps: *mut Step, steps_length: usize);
+    fn fotsgari_use_sheets(requests: *mut Request, requests_length: usize);
 }
 
 unsafe extern "C" {
@@ -185,22 +195,26 @@ pub fn run_life(given: Given, written: Written) -> u8 {
     }
 }
 
-/// Takes steps on a register over a tape, by the library.
-pub fn use_tape(tape: &mut [u8], steps: &mut [Step]) {
+/// Makes requests to a register over a tape, by the library.
+pub fn use_tape(tape: &mut [u8], requests: &mut [Request]) {
     // SAFETY: as in run_life.
-    unsafe { fotsgari_use_tape(tape.as_mut_ptr(), tape.len(), steps.as_mut_ptr(), steps.len()) }
+    unsafe {
+        fotsgari_use_tape(tape.as_mut_ptr(), tape.len(), requests.as_mut_ptr(), requests.len())
+    }
 }
 
-/// Takes steps on a register over a table, by the library.
-pub fn use_table(table: &mut [Record], steps: &mut [Step]) {
+/// Makes requests to a register over a table, by the library.
+pub fn use_table(table: &mut [Record], requests: &mut [Request]) {
     // SAFETY: as in run_life.
-    unsafe { fotsgari_use_table(table.as_mut_ptr(), table.len(), steps.as_mut_ptr(), steps.len()) }
+    unsafe {
+        fotsgari_use_table(table.as_mut_ptr(), table.len(), requests.as_mut_ptr(), requests.len())
+    }
 }
 
-/// Takes steps on two spare sheets, by the library.
-pub fn use_sheets(steps: &mut [Step]) {
+/// Makes requests to two spare sheets, by the library.
+pub fn use_sheets(requests: &mut [Request]) {
     // SAFETY: as in run_life.
-    unsafe { fotsgari_use_sheets(steps.as_mut_ptr(), steps.len()) }
+    unsafe { fotsgari_use_sheets(requests.as_mut_ptr(), requests.len()) }
 }
 
 /// A struct of C that is made of integers alone, so that all bytes are a value of it.

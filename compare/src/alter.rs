@@ -1,7 +1,7 @@
 //! A check of the comparer: what the library left of a life is altered in one respect, and the
 //! difference has to be noticed.
 
-use crate::abi::{Call, Outcome, REFUSED, Status, Step, YES};
+use crate::abi::{Call, Outcome, REFUSED, Request, Status, YES};
 use crate::differ::asked;
 use crate::lives::{Life, Ran};
 use crate::random::Random;
@@ -214,15 +214,19 @@ fn name_another(life: &Life, ran: &mut Ran, fits: fn(Option<usize>, usize) -> bo
     false
 }
 
-/// What is altered of a sequence of steps on a register.
-type AlterSteps = fn(&mut Sequence, &mut Random) -> bool;
+/// What is altered of a sequence of requests to a register.
+type AlterRequests = fn(&mut Sequence, &mut Random) -> bool;
 
-pub const OF_A_SEQUENCE: [(&str, AlterSteps); 7] = [
-    ("outcome of a step", |ran, random| of_step(ran, random, |step| step.outcome ^= 1)),
-    ("value of a step", |ran, random| of_step(ran, random, |step| step.value += 1)),
-    ("record of a step", |ran, random| of_step(ran, random, |step| step.statement.result ^= 1)),
-    ("number of a step", |ran, random| of_step(ran, random, |step| step.number ^= 1)),
-    ("replicas of a step", |ran, random| of_step(ran, random, |step| step.replicas ^= 1)),
+pub const OF_A_SEQUENCE: [(&str, AlterRequests); 7] = [
+    ("outcome of a request", |ran, random| of_request(ran, random, |request| request.outcome ^= 1)),
+    ("value of a request", |ran, random| of_request(ran, random, |request| request.value += 1)),
+    ("record of a request", |ran, random| {
+        of_request(ran, random, |request| request.statement.result ^= 1)
+    }),
+    ("number of a request", |ran, random| of_request(ran, random, |request| request.number ^= 1)),
+    ("replicas of a request", |ran, random| {
+        of_request(ran, random, |request| request.replicas ^= 1)
+    }),
     ("byte of a register's tape", |ran, random| {
         let length = ran.tape.len() as u64;
         length > 0 && {
@@ -237,7 +241,7 @@ pub const OF_A_SEQUENCE: [(&str, AlterSteps); 7] = [
     }),
 ];
 
-fn of_step(ran: &mut Sequence, random: &mut Random, alter: fn(&mut Step)) -> bool {
-    let place = random.below(ran.steps.len().max(1) as u64) as usize;
-    ran.steps.get_mut(place).map(alter).is_some()
+fn of_request(ran: &mut Sequence, random: &mut Random, alter: fn(&mut Request)) -> bool {
+    let place = random.below(ran.requests.len().max(1) as u64) as usize;
+    ran.requests.get_mut(place).map(alter).is_some()
 }

@@ -107,13 +107,13 @@ pub fn check_life(seed: u64, number: u64, tally: &mut Tally) {
     tally.add_life(&life, &twin);
 }
 
-/// Compares sequences of steps on registers until so many steps were compared.
-pub fn check_registers(seed: u64, steps: u64, tally: &mut Tally) {
-    let mut progress = Progress::new("steps on registers", steps);
+/// Compares sequences of requests to registers until so many requests were compared.
+pub fn check_registers(seed: u64, requests: u64, tally: &mut Tally) {
+    let mut progress = Progress::new("requests to registers", requests);
     let mut number = 0;
-    while tally.steps < steps {
+    while tally.requests < requests {
         check_sequence(seed, number, tally);
-        progress.tell(tally.steps);
+        progress.tell(tally.requests);
         number += 1;
     }
 }

@@ -18,13 +18,14 @@ use std::process::ExitCode;
 
 use tally::Tally;
 
-const USAGE: &str = "options: --seed N, --calls N, --steps N, --rounds N, --life N, --sequence N";
+const USAGE: &str =
+    "options: --seed N, --calls N, --requests N, --rounds N, --life N, --sequence N";
 
 /// What the arguments ask for.
 struct Options {
     seed: u64,
     calls: u64,
-    steps: u64,
+    requests: u64,
     rounds: u64,
     life: Option<u64>,
     sequence: Option<u64>,
@@ -34,7 +35,7 @@ fn options() -> Option<Options> {
     let mut options = Options {
         seed: 1,
         calls: 3_000_000,
-        steps: 3_000_000,
+        requests: 3_000_000,
         rounds: 60,
         life: None,
         sequence: None,
@@ -45,7 +46,7 @@ fn options() -> Option<Options> {
         match name.as_str() {
             "--seed" => options.seed = number,
             "--calls" => options.calls = number,
-            "--steps" => options.steps = number,
+            "--requests" => options.requests = number,
             "--rounds" => options.rounds = number,
             "--life" => options.life = Some(number),
             "--sequence" => options.sequence = Some(number),
@@ -84,7 +85,7 @@ fn run_all(options: &Options, tally: &mut Tally) -> bool {
     let noticed = comparer::check_comparer(options.seed);
     check::check_lives(options.seed, options.calls, tally);
     let lives = report::print_lives(tally);
-    check::check_registers(options.seed, options.steps, tally);
+    check::check_registers(options.seed, options.requests, tally);
     let registers = report::print_registers(tally);
     if options.rounds > 0 {
         measure::measure(options.seed, options.rounds as usize);

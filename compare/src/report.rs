@@ -124,26 +124,26 @@ fn is_reached(tally: &Tally) -> bool {
 
 /// Prints the table of the registers; whether everything was reached.
 pub fn print_registers(tally: &Tally) -> bool {
-    const STEPS: [&str; 5] = ["none", "ask", "is_empty", "enter", "count"];
+    const REQUESTS: [&str; 5] = ["none", "ask", "is_empty", "enter", "count"];
     const OUTCOMES: [&str; 6] = ["nothing", "granted", "yes", "no", "refused", "counted"];
-    // Of each of three registers: no step, two answers of two questions, three of enter, a count.
+    // Of each of three registers: no request, two answers of two questions, three of enter, a count.
     const ALL: usize = 3 * (1 + 4 + 3 + 1);
-    println!("\nregister     step      outcome        how often");
+    println!("\nregister     request      outcome        how often");
     for (&(over, number, outcome, ground), times) in &tally.outcomes {
-        let step = STEPS.get(usize::from(number)).unwrap_or(&"?");
+        let request = REQUESTS.get(usize::from(number)).unwrap_or(&"?");
         let outcome = OUTCOMES.get(usize::from(outcome)).unwrap_or(&"?");
         let ground = if ground == 0 { String::new() } else { format!(" on {ground}") };
         println!(
-            "{:12} {step:9} {:13} {times:10}",
+            "{:12} {request:9} {:13} {times:10}",
             format!("{over:?}"),
             format!("{outcome}{ground}")
         );
     }
     println!(
-        "compared: {} sequences, {} steps, {} bytes of memory",
-        tally.sequences, tally.steps, tally.memory_bytes
+        "compared: {} sequences, {} requests, {} bytes of memory",
+        tally.sequences, tally.requests, tally.memory_bytes
     );
-    let enough = tally.steps / 100_000;
+    let enough = tally.requests / 100_000;
     let often = tally.outcomes.values().filter(|&&times| times >= enough).count();
     if often < ALL && enough > 0 {
         println!("REACHED TOO SELDOM (under {enough} times): {} of these {ALL}", ALL - often);

@@ -1,14 +1,14 @@
-//! Random sequences of steps on registers, and what differs after them.
+//! Random sequences of requests to registers, and what differs after them.
 
-use crate::abi::{self, Memory, Record, Step};
+use crate::abi::{self, Memory, Record, Request};
 use crate::differ::{compare_bytes, compare_each, compare_words};
 use crate::generate::{any_record, break_layout};
 use crate::random::Random;
 use crate::twin::record::PLACE;
 use crate::twin::register::ByAny;
-use crate::twin::steps::{self, ASK, COUNT, ENTER, IS_EMPTY};
+use crate::twin::requests::{self, ASK, COUNT, ENTER, IS_EMPTY};
 
-/// Which register the steps are on.
+/// Which register the requests are made to.
 #[derive(Clone, Copy, Debug, PartialEq, Eq, PartialOrd, Ord)]
 pub enum Over {
     Table,
@@ -16,14 +16,14 @@ pub enum Over {
     Sheets,
 }
 
-/// The memory of a register, of which one of the two is used, and the steps with what came of
+/// The memory of a register, of which one of the two is used, and the requests with what came of
 /// them.
 #[derive(Clone)]
 pub struct Sequence {
     pub over: Over,
     pub table: Memory<Record>,
     pub tape: Vec<u8>,
-    pub steps: Vec<Step>,
+    pub requests: Vec<Request>,
 }
 
 /// Records of which many differ in one field only, and some break the layout.
@@ -42,7 +42,7 @@ fn pool(random: &mut Random) -> Vec<Record> {
     records
 }
 
-fn some_step(pool: &[Record], random: &mut Random) -> Step {
+fn some_request(pool: &[Record], random: &mut Random) -> Request {
     let number = match random.below(100) {
         0..30 => ASK,
         30..40 => IS_EMPTY,
@@ -55,7 +55,7 @@ fn some_step(pool: &[Record], random: &mut Random) -> Step {
         break_layout(&mut statement, random);
     }
     let few = random.below(20) as u8;
-    Step {
+    Request {
         statement,
         number,
         replicas: random.of(&[few, few, 16, 17, 255]),
@@ -83,25 +83,26 @@ impl Sequence {
         let over = random.of(&[Over::Table, Over::Tape, Over::Sheets]);
         let most = if over == Over::Sheets { 300 } else { 100 };
         let length = random.below(most);
-        let steps = (0..length).map(|_| some_step(&pool, random)).collect();
-        Sequence { over, table, tape, steps }
+        let requests = (0..length).map(|_| some_request(&pool, random)).collect();
+        Sequence { over, table, tape, requests }
     }
 
     pub fn run_by_library(&self) -> Sequence {
         let mut ran = self.clone();
         match self.over {
-            Over::Table => abi::use_table(ran.table.values_mut(), &mut ran.steps),
-            Over::Tape => abi::use_tape(&mut ran.tape, &mut ran.steps),
-            Over::Sheets => abi::use_sheets(&mut ran.steps),
+            Over::Table => abi::use_table(ran.table.values_mut(), &mut ran.requests),
+            Over::Tape => abi::use_tape(&mut ran.tape, &mut ran.requests),
+            Over::Sheets => abi::use_sheets(&mut ran.requests),
         }
         ran
     }
 
     /// How many different statements were entered.
     fn entered(&self) -> usize {
-        let granted = |step: &&Step| step.number == ENTER && step.outcome == steps::GRANTED;
+        let granted =
+            |request: &&Request| request.number == ENTER && request.outcome == requests::GRANTED;
         let mut entered: Vec<Record> = Vec::new();
-        for Step { statement, .. } in self.steps.iter().filter(granted) {
+        for Request { statement, .. } in self.requests.iter().filter(granted) {
             if !entered.contains(statement) {
                 entered.push(*statement);
             }
@@ -112,19 +113,19 @@ impl Sequence {
     pub fn run_by_twin(&self) -> Sequence {
         let mut ran = self.clone();
         match self.over {
-            Over::Table => steps::use_table::<ByAny>(ran.table.values_mut(), &mut ran.steps),
-            Over::Tape => steps::use_tape::<ByAny>(&mut ran.tape, &mut ran.steps),
-            Over::Sheets => steps::use_sheets(&mut ran.steps),
+            Over::Table => requests::use_table::<ByAny>(ran.table.values_mut(), &mut ran.requests),
+            Over::Tape => requests::use_tape::<ByAny>(&mut ran.tape, &mut ran.requests),
+            Over::Sheets => requests::use_sheets(&mut ran.requests),
         }
         ran
     }
 }
 
-/// Every difference, each in words: outcomes, what was handed over in the steps, and memory.
+/// Every difference, each in words: outcomes, what was handed over in the requests, and memory.
 pub fn differences(before: &Sequence, ours: &Sequence, twin: &Sequence) -> Vec<String> {
     let mut found = Vec::new();
-    compare_each(&ours.steps, &twin.steps, &mut found, |place, our, other| {
-        format!("step {place}: {our:?}, by the twin {other:?}")
+    compare_each(&ours.requests, &twin.requests, &mut found, |place, our, other| {
+        format!("request {place}: {our:?}, by the twin {other:?}")
     });
     compare_bytes("tape", &ours.tape, &twin.tape, &mut found);
     compare_each(ours.table.values(), twin.table.values(), &mut found, |place, our, other| {

@@ -7,7 +7,7 @@ use crate::generate::number;
 use crate::lives::{Life, Ran};
 use crate::sequences::{Over, Sequence};
 use crate::twin::picks::top;
-use crate::twin::steps;
+use crate::twin::requests;
 
 pub const CALLS: usize = 17;
 pub const GROUNDS: usize = 19;
@@ -29,8 +29,8 @@ pub struct Tally {
     /// By what a call that was not refused had to do with.
     pub reached: BTreeMap<&'static str, u64>,
     pub sequences: u64,
-    pub steps: u64,
-    /// By the register, the number of the step, its outcome, and its ground if it is refused.
+    pub requests: u64,
+    /// By the register, the number of the request, its outcome, and its ground if it is refused.
     pub outcomes: BTreeMap<(Over, u8, u8, u8), u64>,
     pub memory_bytes: u64,
     pub differences: u64,
@@ -98,16 +98,16 @@ impl Tally {
 
     pub fn add_sequence(&mut self, ran: &Sequence) {
         self.sequences += 1;
-        self.steps += ran.steps.len() as u64;
+        self.requests += ran.requests.len() as u64;
         self.memory_bytes += match ran.over {
             Over::Table => 8 * ran.table.words().len() as u64,
             Over::Tape => ran.tape.len() as u64,
             Over::Sheets => 0,
         };
-        for step in &ran.steps {
-            let number = if step.outcome == 0 { 0 } else { step.number };
-            let ground = if step.outcome == steps::REFUSED { step.value } else { 0 };
-            let key = (ran.over, number, step.outcome, ground);
+        for request in &ran.requests {
+            let number = if request.outcome == 0 { 0 } else { request.number };
+            let ground = if request.outcome == requests::REFUSED { request.value } else { 0 };
+            let key = (ran.over, number, request.outcome, ground);
             *self.outcomes.entry(key).or_default() += 1;
         }
     }

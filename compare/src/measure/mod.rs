@@ -1,10 +1,10 @@
 //! Measures the library and the twin side by side, on the same inputs.
 
 mod registers;
+mod requesting;
 mod row;
 mod running;
 mod table;
-mod taking;
 mod whole;
 
 /// Who does the work: the library, or the twin, which searches in one of two ways or has a hash

@@ -1,10 +1,10 @@
 //! Rows on tables and tapes.
 
+use super::requesting::{Over, Requesting};
 use super::row::{ALIKE, Row};
-use super::taking::{Over, Taking};
 use super::{MANY_PLACES, SOME_PLACES};
-use crate::abi::{Record, Step};
-use crate::twin::steps::{ASK, COUNT, ENTER};
+use crate::abi::{Record, Request};
+use crate::twin::requests::{ASK, COUNT, ENTER};
 
 /// The statement at a place of a full register: the last sixteen are one, said by all replicas.
 fn statement(places: usize, place: usize) -> Record {
@@ -18,26 +18,29 @@ fn absent() -> Record {
     Record::reply(1, 1, 0, 0)
 }
 
-/// The steps that fill a register, and a step that is repeated after them.
-fn steps(places: usize, step: Step, times: usize) -> Vec<Step> {
-    let entering =
-        |place| Step { statement: statement(places, place), number: ENTER, ..Step::default() };
-    (0..places).map(entering).chain(std::iter::repeat_n(step, times)).collect()
+/// The requests that fill a register, and a request that is repeated after them.
+fn requests(places: usize, request: Request, times: usize) -> Vec<Request> {
+    let entering = |place| Request {
+        statement: statement(places, place),
+        number: ENTER,
+        ..Request::default()
+    };
+    (0..places).map(entering).chain(std::iter::repeat_n(request, times)).collect()
 }
 
 /// A row that enters statements until a register is full.
 fn filling(name: String, over: Over, places: usize) -> Row {
-    let mut taking = Taking::new(over, places, steps(places, Step::default(), 0));
-    taking.expect_alike(&name, places);
-    let work = Box::new(move |who, operations| taking.take(who, operations));
+    let mut requesting = Requesting::new(over, places, requests(places, Request::default(), 0));
+    requesting.expect_alike(&name, places);
+    let work = Box::new(move |who, operations| requesting.make(who, operations));
     Row { name, operations: places..=places, work }
 }
 
-/// A row that repeats a step on a full register.
-fn repeated(name: String, over: Over, places: usize, step: Step) -> Row {
-    let mut taking = Taking::new(over, places, steps(places, step, *ALIKE.end()));
-    taking.expect_alike(&name, places + ALIKE.start());
-    let work = Box::new(move |who, operations| taking.take(who, places + operations));
+/// A row that repeats a request on a full register.
+fn repeated(name: String, over: Over, places: usize, request: Request) -> Row {
+    let mut requesting = Requesting::new(over, places, requests(places, request, *ALIKE.end()));
+    requesting.expect_alike(&name, places + ALIKE.start());
+    let work = Box::new(move |who, operations| requesting.make(who, places + operations));
     Row { name, operations: ALIKE, work }
 }
 
@@ -55,8 +58,8 @@ fn rows_over(name: &str, over: Over, places: usize) -> Vec<Row> {
     ];
     let mut rows = vec![filling(name("enter, new, until full"), over, places)];
     rows.extend(repeating.map(|(what, number, statement, replicas)| {
-        let step = Step { statement, number, replicas, ..Step::default() };
-        repeated(name(what), over, places, step)
+        let request = Request { statement, number, replicas, ..Request::default() };
+        repeated(name(what), over, places, request)
     }));
     rows
 }

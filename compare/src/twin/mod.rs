@@ -8,8 +8,8 @@ pub mod life;
 pub mod picks;
 pub mod record;
 pub mod register;
+pub mod requests;
 pub mod service;
-pub mod steps;
 pub mod views;
 pub mod votes;
 

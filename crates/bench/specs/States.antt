@@ -53,7 +53,7 @@ module _ {R S : Type 0} (g : register.Ghosts R) (h : service.Ghosts S) (old : Be
     -- the answer, and the state afterwards, are those of the call's definition
     pub answer : if_granted a Granted ≡ meaning_of.outcome
     pub after : state_of g new ≡ meaning_of.after
-    -- the statement that it adds, if it adds one, is stored in the register's memory
+    -- the register's memory is what storing the statement makes of it that the call adds, if it adds one
     pub memory :
         g.memory new.register.now
         ≡ fold g.stores (g.memory old.register.now) (addition_to (state_of g old) meaning_of.enters)
