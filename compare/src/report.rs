@@ -128,7 +128,7 @@ pub fn print_registers(tally: &Tally) -> bool {
     const OUTCOMES: [&str; 6] = ["nothing", "granted", "yes", "no", "refused", "counted"];
     // Of each of three registers: no request, two answers of two questions, three of enter, a count.
     const ALL: usize = 3 * (1 + 4 + 3 + 1);
-    println!("\nregister     request      outcome        how often");
+    println!("\nregister     request   outcome        how often");
     for (&(over, number, outcome, ground), times) in &tally.outcomes {
         let request = REQUESTS.get(usize::from(number)).unwrap_or(&"?");
         let outcome = OUTCOMES.get(usize::from(outcome)).unwrap_or(&"?");
