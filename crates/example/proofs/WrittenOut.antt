@@ -1,4 +1,4 @@
--- The example's calls come to its outcomes, and it certified_at_end what it is said to: all computed from the definitions.
+-- The example's calls come to its outcomes, and what is said to be certified at its end is: all computed from the definitions.
 use Rattle.std.proofs.Common.{◌≡◌, refl, arith}
 use Rattle.std.specs.Int.Count.{count_leading_zeros}
 use Rattle.record.specs.Layout.{keeps_layout}

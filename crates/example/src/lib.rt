@@ -9,7 +9,7 @@ ghost use Rattle.example.specs.WrittenOut.{OutcomesHold, LinesHold, CertifiedAtE
 // The operations that the example stamps, that of slot 0 first.
 const STAMPED: [u64; 3] = [5, 6, 7];
 
-/// The answers that the example certified_at_end for slots 0 and 2. Its service answers the sum of
+/// The answers that are certified in the example for slots 0 and 2. Its service answers the sum of
 /// what it was fed and the operation; slot 1 is a no-op, so its operation is fed to none.
 #[tactic(auto, using(crate::proofs::WrittenOut::outcomes_hold, crate::proofs::WrittenOut::lines_hold, crate::proofs::WrittenOut::certified_at_end))]
 pub fn written_out() -> (u64, u64)

@@ -1,5 +1,5 @@
 //! The line that picks merge to.
-// A line is a pair here, length and word: lead and start say it, and enter has one to compare.
+// A line is a pair here, length and word: lead and start say it.
 ghost use Rattle.std.specs.Prelude.{◌≡◌, max, bit_or};
 ghost use Rattle.merge.specs.Merges.{merge, MergesAlike};
 
