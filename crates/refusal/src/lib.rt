@@ -1,7 +1,7 @@
 //! Why a call is refused: a ground, which has a number, and a place.
 #![tactic(auto)]
 
-ghost use Rattle.std.specs.Prelude.{◌≡◌, Some};
+ghost use Rattle.std.specs.Prelude.{◌≡◌, Some, Decides, ◌==◌};
 ghost use Rattle.refusal.specs.Grounds.{ground_number, refused, text};
 
 use std::error::Error;
@@ -48,6 +48,14 @@ pub enum Ground {
     SlotsExhausted = 17,
     /// A new statement needs a place in the register, and none is free.
     RegisterFull = 18,
+}
+
+// What the derived `==` promises: grounds are the same exactly where their numbers are.
+fn same(a: Ground, b: Ground) -> bool
+    ensures value { result ≡ (ground_number a == ground_number b) }
+    ensures meaning { Decides result (a ≡ b) }
+{
+    a == b
 }
 
 impl Ground {
