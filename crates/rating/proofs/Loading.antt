@@ -63,7 +63,7 @@ distinct (c ∷ cs) h =
     (distinct cs (tail c cs h))
 
 -- there are no more curves than numbers
-length-numbered : (b : ℕ) (cs : Curves) → numbered b cs → length cs ≤ b
+pub length-numbered : (b : ℕ) (cs : Curves) → numbered b cs → length cs ≤ b
 length-numbered b cs h =
     let below : (q : ℕ) → list_any (eqb q) (map (λ c. c.number) cs) ≡ true → q < b =
     λ q found.
@@ -73,7 +73,7 @@ length-numbered b cs h =
     let same = length-map cs (λ c. c.number) in
     omega arith
 
-numbered-loaded : (b : ℕ) (k : Curve) (cs : Curves) → k.number < b → numbered b cs → numbered b (loaded k cs)
+pub numbered-loaded : (b : ℕ) (k : Curve) (cs : Curves) → k.number < b → numbered b cs → numbered b (loaded k cs)
 numbered-loaded b k cs l h =
     subst (λ (zs : Curves). numbered b (k ∷ zs)) (others-without k.number cs h.apart) (numbered-others b k cs l h)
 

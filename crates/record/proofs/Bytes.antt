@@ -1,10 +1,11 @@
 -- Laws of the bytes of a number, for every number of bytes.
-use Rattle.std.proofs.Common.{◌≡◌, ℕ, zero, suc, ◌+◌, ◌*◌, ◌/◌, ◌%◌, ◌^◌, ◌<◌, ◌≤◌, List, ◌∷◌, ◌++◌, length, get_or, take, drop, sym, refl, ap, ◌∙◌, mul_assoc, mul_comm, suc-add, pow-suc, zero-add, arith, pow-add, inl, inr, lit<}
+use Rattle.std.proofs.Common.{◌≡◌, ℕ, zero, suc, ◌+◌, ◌*◌, ◌/◌, ◌%◌, ◌^◌, ◌<◌, ◌≤◌, List, [], ◌∷◌, ◌++◌, length, get_or, take, drop, sym, refl, ap, ◌∙◌, mul-le-mul_right, mul_assoc, mul_comm, suc-add, pow-suc, div-add-mod', zero-add, arith, pow-add, inl, inr, lit<}
 use native.Mathlib.Nat.{one-le-pow, div-div-eq-div-mul, mul-add-div_right}
+use Rattle.std.specs.List.{AllByRecursion}
 use Rattle.std.proofs.lemmas.Bool.{cases_lt}
 use Rattle.std.proofs.lemmas.List.{get_or-take, get_or-drop, length-take-le, length-drop}
 use Rattle.std.proofs.Math.ListN.{get_or-eq_default}
-use Rattle.std.proofs.lemmas.Nat.{div-mul-add, be_bytes_4, be_bytes_8, from_be_bytes-to_be_bytes_4, from_be_bytes-to_be_bytes_8}
+use Rattle.std.proofs.lemmas.Nat.{div-mul-add, mod_below, div_below, be_bytes_4, be_bytes_8, from_be_bytes-to_be_bytes_4, from_be_bytes-to_be_bytes_8}
 use Rattle.record.specs.Bytes.{be}
 use Rattle.std.specs.Int.{Width, w32, w64, byte_at, bytes_high_first, to_be_bytes, from_be_bytes}
 
@@ -37,6 +38,51 @@ be_append (suc j) k m n h =
     ap (λ (p : ℕ). x / p) (pow-add 256 j k ∙ mul_comm (256 ^ j) (256 ^ k)) ∙ sym (div-div-eq-div-mul x (256 ^ k) (256 ^ j)) ∙ ap (λ (p : ℕ). p / 256 ^ j) (div-mul-add m (256 ^ k) n h) in
     let rest : be (j + k) x ≡ be j m ++ be k n = be_append j k m n h in
     ap (λ (i : ℕ). be i x) (suc-add j k) ∙ ap (λ (p : ℕ). p % 256 ∷ be (j + k) x) shift ∙ ap (λ (l : List ℕ). m / 256 ^ j % 256 ∷ l) rest
+
+-- numbers of k bytes with the same bytes are the same
+pub be_one : (k m n : ℕ) → m < 256 ^ k → n < 256 ^ k → be k m ≡ be k n → m ≡ n
+unfolding be
+be_one zero m n hm hn e = omega arith
+be_one (suc k) m n hm hn e =
+    let p = 256 ^ k in
+    let s = pow-suc 256 k in
+    let first : m / p % 256 ≡ n / p % 256 = cc in
+    let rest : be k m ≡ be k n = cc in
+    let qm : m / p < 256 = div_below m p 256 (positive k) (omega (arith, mul_comm p 256)) in
+    let qn : n / p < 256 = div_below n p 256 (positive k) (omega (arith, mul_comm p 256)) in
+    let q : m / p ≡ n / p = omega arith in
+    let low : (x : ℕ) → be k (x % p) ≡ be k x = λ x. sym (be_low k (x / p) (x % p)) ∙ ap (be k) (div-add-mod' x p) in
+    let t : m % p ≡ n % p = be_one k (m % p) (n % p) (mod_below m p (positive k)) (mod_below n p (positive k)) (low m ∙ rest ∙ sym (low n)) in
+    sym (div-add-mod' m p) ∙ ap (λ (x : ℕ). x * p + m % p) q ∙ ap (λ (x : ℕ). n / p * p + x) t ∙ div-add-mod' n p
+
+-- the number that bytes write
+abbrev pub number : List ℕ → ℕ
+number [] = 0
+number (x ∷ xs) = x * 256 ^ length xs + number xs
+
+abbrev pub Byte : ℕ → Type 0
+Byte x = x < 256
+
+pub number_below : (xs : List ℕ) → AllByRecursion Byte xs → number xs < 256 ^ length xs
+number_below [] a = omega arith
+number_below (x ∷ xs) a =
+    let r = number_below xs a.1 in
+    let s = pow-suc 256 (length xs) in
+    let p = 256 ^ length xs in
+    let small : x ≤ 255 = omega (arith, a.0) in
+    let m : x * p ≤ 255 * p = mul-le-mul_right p small in
+    omega (arith, mul_comm p 256)
+
+pub be_number : (xs : List ℕ) → AllByRecursion Byte xs → be (length xs) (number xs) ≡ xs
+unfolding be
+be_number [] a = refl
+be_number (x ∷ xs) a =
+    let p = 256 ^ length xs in
+    let r = number_below xs a.1 in
+    let d = div-mul-add x p (number xs) r in
+    let first : (x * p + number xs) / p % 256 ≡ x = omega (arith, a.0) in
+    let rest : be (length xs) (x * p + number xs) ≡ xs = be_low (length xs) x (number xs) ∙ be_number xs a.1 in
+    cc
 
 -- the bytes of a number as the library writes them
 byte_is : (k n : ℕ) → n / 256 ^ k % 256 ≡ byte_at k n
@@ -75,9 +121,9 @@ module _ {w : Width} {k limit : ℕ} (known : BytesOf w k limit) where
   pub be_writes : (n : ℕ) → be k n ≡ to_be_bytes w n
   be_writes n = be_is k n ∙ sym (known.writes n)
 
-  -- numbers with the same bytes are the same
-  pub be_one : (m n : ℕ) → m < limit → n < limit → be k m ≡ be k n → m ≡ n
-  be_one m n hm hn e =
+  -- numbers below the limit with the same bytes are the same
+  pub be_one_of : (m n : ℕ) → m < limit → n < limit → be k m ≡ be k n → m ≡ n
+  be_one_of m n hm hn e =
       sym (known.back m hm) ∙ ap (from_be_bytes w) (sym (be_writes m) ∙ e ∙ be_writes n) ∙ known.back n hn
 
   -- n is read from k bytes of a list, from i on

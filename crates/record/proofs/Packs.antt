@@ -7,7 +7,7 @@ use Rattle.record.specs.Heads.{head_of, with_head}
 use Rattle.record.specs.Layout.{Layout}
 use Rattle.record.specs.Packed.{fields, packed, Packs}
 use Rattle.record.specs.declared.Record.{Record}
-use Rattle.record.proofs.Bytes.{be_append, be_one, four_bytes, eight_bytes, length_be}
+use Rattle.record.proofs.Bytes.{be_append, be_one_of, four_bytes, eight_bytes, length_be}
 use Rattle.record.proofs.Heads.{Fits, head_below, head_even, head_returns, head_kept}
 use Rattle.record.proofs.Layouts.{layout_from}
 use Rattle.record.proofs.Lists.{first_part, second_part, third_part, three_parts}
@@ -75,14 +75,14 @@ module _ (b : List ℕ) (h w a : ℕ) (s : Splits b h w a) where
   split_head : (r : Record) → Packs r b → h ≡ head_of r
   split_head r p =
       let t = splits r b p in
-      be_one four_bytes h (head_of r) s.head_fits t.head_fits (s.head ∙ sym t.head)
+      be_one_of four_bytes h (head_of r) s.head_fits t.head_fits (s.head ∙ sym t.head)
 
   pub split_record : (r : Record) → Packs r b → with_head h w a ≡ r
   split_record r p =
       let t = splits r b p in
       let head = split_head r p in
-      let word = be_one eight_bytes w r.word s.word_fits t.word_fits (s.word ∙ sym t.word) in
-      let result = be_one eight_bytes a r.result s.result_fits t.result_fits (s.result ∙ sym t.result) in
+      let word = be_one_of eight_bytes w r.word s.word_fits t.word_fits (s.word ∙ sym t.word) in
+      let result = be_one_of eight_bytes a r.result s.result_fits t.result_fits (s.result ∙ sym t.result) in
       let same : with_head h w a ≡ with_head (head_of r) r.word r.result = cc in
       same ∙ head_returns r (fits r (layout_from r p.layout))
 
