@@ -7,5 +7,5 @@ use Rattle.quorum.proofs.count.Goals as goal
 
 pub returns : goal.returns
 returns g c =
-    count_from_yields_List _ _ c.count.ensures.ran (YieldsList-from_filter _ (said (g.R.Register.held c.args.register.now) c.args.statement.now) (YieldsList-from_range 0 c.args.n c.args.n (cc) (omega arith)) c.filter.ensures.closure (λ x r q k. search (rules, tests)))
+    count_from_yields_List _ _ c.count.ensures.ran (YieldsList-from_filter _ (said (g.R.Register.held c.args.register.now) c.args.statement.now) (YieldsList-from_range 0 c.args.n c.args.n (search (rules, tests)) (omega arith)) c.filter.ensures.closure (λ x r q k. search (rules, tests)))
     ∙ length-passing _ c.args.n
